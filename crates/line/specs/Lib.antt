@@ -1,0 +1,4 @@
+pub mod Load
+pub mod Nrzi
+pub mod Preamble
+pub mod Biphase
