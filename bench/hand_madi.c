@@ -1,0 +1,216 @@
+/* MADI by hand. A channel is 40 line bits, five whole octets; a sync symbol has four ones, so it leaves the level as it was. */
+#include "hand.h"
+
+static const uint8_t five[16] = {30, 9, 20, 21, 10, 11, 14, 15, 18, 19, 22, 23, 26, 27, 28, 29};
+
+static uint16_t twelve[4096];   /* 15 symbols of three groups, after level 0; the lowest bits first */
+static uint16_t eight[256];     /* 10 symbols of two groups */
+static uint32_t ten[1024];      /* eight bits of two groups, or NO_GROUP */
+#define NO_GROUP 0x80000000u
+
+static uint32_t turned(uint32_t four)
+{
+    return (four & 1) << 3 | (four & 2) << 1 | (four & 4) >> 1 | (four & 8) >> 3;
+}
+
+/* NRZI over the low `count` bits, the highest first, after level 0. */
+static uint32_t levels(uint32_t bits, int count)
+{
+    uint32_t out = 0, level = 0;
+    for (int k = count - 1; k >= 0; k--) {
+        level ^= bits >> k & 1;
+        out = out << 1 | level;
+    }
+    return out;
+}
+
+void hand_init_madi(void)
+{
+    uint32_t back[32];
+    for (uint32_t x = 0; x < 32; x++)
+        back[x] = NO_GROUP;
+    for (uint32_t x = 0; x < 16; x++)
+        back[five[x]] = turned(x);
+    for (uint32_t x = 0; x < 4096; x++)
+        twelve[x] = (uint16_t)levels((uint32_t)five[turned(x & 15)] << 10 | (uint32_t)five[turned(x >> 4 & 15)] << 5 |
+                                     five[turned(x >> 8)], 15);
+    for (uint32_t x = 0; x < 256; x++)
+        eight[x] = (uint16_t)levels((uint32_t)five[turned(x & 15)] << 5 | five[turned(x >> 4)], 10);
+    for (uint32_t x = 0; x < 1024; x++)
+        ten[x] = (back[x >> 5] | back[x & 31]) & NO_GROUP ? NO_GROUP : back[x >> 5] | back[x & 31] << 4;
+}
+
+static inline lampcoil_verdict verdict(uint32_t number, uint32_t place)
+{
+    lampcoil_verdict v = {number, place};
+    return v;
+}
+
+/* 9 and 12 over all words. */
+static lampcoil_verdict judge(const uint32_t *words, size_t n)
+{
+    uint32_t low = 0, odds = 0;
+    for (size_t c = 0; c < n; c++) {
+        uint32_t x = words[c] & 0xFFFFFFF0u;
+        low |= words[c];
+        x ^= x >> 16;
+        x ^= x >> 8;
+        x ^= x >> 4;
+        x ^= x >> 2;
+        odds |= x ^ x >> 1;
+    }
+    if (((low & 3) | (odds & 1)) == 0)
+        return verdict(0, 0);
+    for (uint32_t c = 0; c < n; c++)
+        if (odd(words[c]))
+            return verdict(9, c);
+    for (uint32_t c = 0; c < n; c++)
+        if ((words[c] & 3) != 0)
+            return verdict(12, c);
+    return verdict(0, 0);
+}
+
+/* The 40 symbols of a channel after a level that is 0 or all ones. */
+static inline uint64_t channel(uint32_t word, uint64_t level)
+{
+    uint64_t a = twelve[word & 4095] ^ (level & 0x7FFF);
+    uint64_t b = twelve[word >> 12 & 4095] ^ (-(a & 1) & 0x7FFF);
+    uint64_t c = eight[word >> 24] ^ (-(b & 1) & 0x3FF);
+    return a << 25 | b << 10 | c;
+}
+
+static inline void store_five(uint8_t *p, uint64_t x)
+{
+    for (int k = 0; k < 5; k++)
+        p[k] = (uint8_t)(x >> (32 - 8 * k));
+}
+
+/* Sync symbols, four to five octets; the last octet's spare bits are 0. */
+static void put_syncs(uint8_t *line, uint32_t syncs, uint64_t level)
+{
+    uint64_t one = 0x21Eu ^ (level & 0x3FF), four = one << 30 | one << 20 | one << 10 | one;
+    for (; syncs >= 4; syncs -= 4, line += 5)
+        store_five(line, four);
+    four = syncs == 0 ? 0 : four & ~(uint64_t)0 << (40 - 10 * syncs);
+    for (uint32_t k = 0; k < (10 * syncs + 7) / 8; k++)
+        line[k] = (uint8_t)(four >> (32 - 8 * k));
+}
+
+lampcoil_verdict HAND(madi_write)(uint32_t channels, const uint32_t *words, size_t words_len, uint32_t syncs, uint32_t level,
+                                  uint8_t *line, size_t line_len)
+{
+    if ((channels != 56 && channels != 64) || words_len - 1 >= channels || syncs - 1 > 254 || level > 1)
+        return verdict(2, 0);
+    if (line_len < (40 * channels + 10 * syncs + 7) / 8)
+        return verdict(1, 0);
+    lampcoil_verdict v = judge(words, words_len);
+    if (v.number != 0)
+        return v;
+    uint64_t now = 0 - (uint64_t)level, first = 3;
+    uint32_t c = 0;
+    /* eight octets at once: the next channel writes over the last three, so the last channel of all is written apart */
+    for (; c < words_len && c < channels - 1; c++, line += 5) {
+        uint64_t x = channel(words[c] | (uint32_t)first, now);
+        store_be64(line, x << 24);
+        now = -(x & 1);
+        first = 2;
+    }
+    for (; c < channels; c++, line += 5) {
+        uint64_t x = channel(c < words_len ? words[c] | (uint32_t)first : 0, now);
+        store_five(line, x);
+        now = -(x & 1);
+    }
+    put_syncs(line, syncs, now);
+    return v;
+}
+
+typedef struct { uint32_t words[64]; uint32_t read, active, syncs; } frame;
+
+/* 11, 12 and 9 of a channel that the quick test has turned away. */
+static lampcoil_verdict broken(uint64_t x, uint32_t at, uint32_t c, uint32_t active)
+{
+    uint32_t word = 0;
+    for (uint32_t g = 0; g < 8; g++) {
+        uint32_t pair = ten[30u << 5 | (x >> (35 - 5 * g) & 31)];
+        if (pair & NO_GROUP)
+            return verdict(11, at + 5 * g);
+        word |= (pair >> 4 & 15) << 4 * g;
+    }
+    if ((word & 1) != (c == 0) || (c == 0 && (word & 2) == 0) || ((word & 2) != 0 && active < c) || ((word & 2) == 0 && word != 0))
+        return verdict(12, c);
+    return verdict(9, c);
+}
+
+/* The 40 bits at `at` as a word of the frame. */
+static inline lampcoil_verdict take_channel(frame *f, uint64_t x, uint32_t at)
+{
+    uint32_t a = ten[x >> 30], b = ten[x >> 20 & 1023], c = ten[x >> 10 & 1023], d = ten[x & 1023];
+    uint32_t word = a | b << 8 | c << 16 | d << 24, bad = (a | b | c | d) & NO_GROUP;
+    if ((word & 2) != 0) {
+        bad |= (word & 1) ^ (f->read == 0);
+        bad |= (f->active ^ f->read) | odd(word);
+        f->active++;
+    } else
+        bad |= word | (f->read == 0);
+    if (bad != 0)
+        return broken(x, at, f->read, f->active - ((word & 2) >> 1));
+    f->words[f->read++] = word & ~3u;
+    return verdict(0, 0);
+}
+
+static lampcoil_verdict take_frame(frame *f, const uint8_t *line, uint32_t channels, uint64_t level, uint32_t bits)
+{
+    uint32_t at = 0;
+    while (at < bits) {
+        uint64_t x = load_be64(line + at / 8) << at % 8 >> 24;   /* 40 symbols; level: the one before */
+        uint64_t change = (x ^ (x >> 1 | level << 39)) & 0xFFFFFFFFFFu;
+        if (change >> 30 == 0x311 && bits - at >= 10) {
+            if (f->syncs == 255)
+                return verdict(10, at);
+            f->syncs++;
+            at += 10;
+        } else {
+            if (bits - at < 40 || f->read == channels)
+                return verdict(10, at);
+            lampcoil_verdict v = take_channel(f, change, at);
+            if (v.number != 0)
+                return v;
+            level = x & 1;
+            at += 40;
+        }
+    }
+    return f->read < channels || f->syncs == 0 ? verdict(10, bits) : verdict(0, 0);
+}
+
+lampcoil_madi_read_answer HAND(madi_read)(uint32_t channels, uint32_t level, uint32_t bits, const uint8_t *line, size_t line_len,
+                                          uint32_t *words, size_t words_len)
+{
+    lampcoil_madi_read_answer r = {0, 0, 0, 0};
+    uint8_t room[648];
+    frame f;
+    if ((channels != 56 && channels != 64) || level > 1 || bits > 5110) {
+        r.number = 2;
+        return r;
+    }
+    if (line_len != (bits + 7) / 8 || words_len != channels) {
+        r.number = 1;
+        return r;
+    }
+    if (bits % 8 != 0 && (line[line_len - 1] & 0xFF >> bits % 8) != 0) {
+        r.number = 2;
+        return r;
+    }
+    if (line_len != 0)
+        memcpy(room, line, line_len);
+    memset(room + line_len, 0, 8);
+    f.read = f.active = f.syncs = 0;
+    lampcoil_verdict v = take_frame(&f, room, channels, level, bits);
+    r.number = v.number;
+    r.place = v.place;
+    if (v.number != 0)
+        return r;
+    memcpy(words, f.words, channels * sizeof words[0]);
+    r.active = f.active;
+    r.syncs = f.syncs;
+    return r;
+}

@@ -1,0 +1,11 @@
+pub mod BiphaseTables
+pub mod Writing
+pub mod LineWriting
+pub mod BlockWriting
+pub mod Reading
+pub mod Decoding
+pub mod BlockReading
+pub mod LineLaws
+pub mod LineTrips
+pub mod Polarity
+pub mod BlockTrips

@@ -1,0 +1,133 @@
+-- Whole lines there and back, over bodies, and the level that a line leaves. Assumes nothing.
+use mathlib.Core.Path.{_≡_, refl, sym, ap, ap₂, _∙_, subst}
+use mathlib.Core.Bool.{Bool, true, false, not}
+use mathlib.Core.List.{List, [], _∷_, _++_, map}
+use Prim.Native.Nat.{ℕ, zero, suc, _+_, _-_, _*_, _/_, _^_, _<_}
+use native.Mathlib.Omega.{arith}
+use lib.ListN.{length, take, drop, getD, length-append, length-drop, take-append-drop}
+use lib.Seq.{take-at, drop-at, length-take-le}
+use Rattle.bits.specs.Row.{Row, odd, bigBits, big, Below}
+use Rattle.bits.specs.Window.{window}
+use Rattle.bits.specs.Pack.{chain, pack, octets, symbols}
+use Rattle.bits.proofs.Windows.{part-in, part-all}
+use Rattle.bits.proofs.Packing.{highest, chain-append, length-chain, length-pack, octets-symbols, symbols-octets}
+use Rattle.bits.proofs.Bounds.{below-take, below-drop}
+use Rattle.line.specs.Preamble.{afterLevel}
+use Rattle.line.specs.Biphase.{left}
+use Rattle.line.proofs.BiphaseLaws.{left-append}
+use Rattle.subframe.specs.Body.{Proper}
+use Rattle.subframe.proofs.BodyTrips.{proper-zero}
+use Rattle.aes3.specs.Subframe.{due, preamble, subframe, subframeRead}
+use Rattle.aes3.specs.Line.{lineFrom, LineRead, LineRead.All, LineRead.Stopped, before, bodiesFrom, levelBefore, bodiesOn}
+use Rattle.aes3.specs.declared.SubframeAnswer.{SubframeAnswer}
+use Rattle.aes3.specs.declared.SubframeAnswer.the-variants.{Body, Refused}
+use Rattle.aes3.proofs.Writing.{length-preamble, length-subframe}
+use Rattle.aes3.proofs.LineLaws.{read-written, read-proper, written-read, level-returns}
+
+-- every number of a list is a body
+abbrev pub Each : List ℕ → Type 0
+Each bodies = (i : ℕ) → Proper (getD bodies i 0)
+
+pub length-line : (i : ℕ) (l : Bool) (bs : List ℕ) → length (lineFrom i l bs) ≡ length bs * 8
+unfolding lineFrom
+length-line i l [] = refl
+length-line i l (b ∷ bs) =
+    let s = subframe i l b in
+    rw (length-append (octets 8 s) (lineFrom (suc i) (left l s) bs), length-pack big 8 8 s, length-line (suc i) (left l s) bs) (omega arith)
+
+-- the symbols of a line are those of its first subframe, and of the others
+symbols-line : (i : ℕ) (l : Bool) (b : ℕ) (rest : List ℕ) → symbols (octets 8 (subframe i l b) ++ rest) ≡ subframe i l b ++ symbols rest
+symbols-line i l b rest =
+    chain-append (bigBits 8) (octets 8 (subframe i l b)) rest
+    ∙ ap (λ (r : Row). r ++ symbols rest) (symbols-octets 8 (subframe i l b) ∙ part-all (subframe i l b) 64 (length-subframe i l b))
+
+-- a line of even bodies leaves the level as it was
+pub line-level : (i : ℕ) (l : Bool) (bs : List ℕ) → Each bs → left l (symbols (lineFrom i l bs)) ≡ l
+unfolding lineFrom chain left
+line-level i l [] p = refl
+line-level i l (b ∷ bs) p =
+    let s = subframe i l b in
+    rw (
+      symbols-line i l b (lineFrom (suc i) (left l s) bs),
+      left-append l s (symbols (lineFrom (suc i) (left l s) bs)),
+      level-returns i l b (p 0),
+    )
+    (line-level (suc i) l bs (λ j. p (suc j)))
+
+-- ---- reading what was written
+
+read-from : (i : ℕ) (l : Bool) (bs : List ℕ) → Each bs → bodiesFrom (length bs) i l (lineFrom i l bs) ≡ All bs
+unfolding bodiesFrom lineFrom before
+read-from i l [] p = refl
+read-from i l (b ∷ bs) p =
+    let s = subframe i l b in
+    let r = lineFrom (suc i) (left l s) bs in
+    let n = length-pack big 8 8 s in
+    let e : symbols (octets 8 s) ≡ s = symbols-octets 8 s ∙ part-all s 64 (length-subframe i l b) in
+    rw (
+      take-at (octets 8 s) r 8 n,
+      drop-at (octets 8 s) r 8 n,
+      e,
+      read-written i l b (p 0),
+      read-from (suc i) (left l s) bs (λ j. p (suc j)),
+    )
+
+opens : (l : Bool) (b : ℕ) (r : Row) → not (getD (subframe 0 l b ++ r) 0 true) ≡ l
+unfolding subframe preamble due afterLevel bigBits
+opens true b r = refl
+opens false b r = refl
+
+-- the level before a line is the opposite of its first symbol
+first-symbol : (l : Bool) (b : ℕ) (bs : List ℕ) → levelBefore (lineFrom 0 l (b ∷ bs)) ≡ l
+unfolding levelBefore lineFrom
+first-symbol l b bs = ap (λ (r : Row). not (getD r 0 true)) (symbols-line 0 l b (lineFrom 1 (left l (subframe 0 l b)) bs)) ∙ opens l b (symbols (lineFrom 1 (left l (subframe 0 l b)) bs))
+
+pub read-back : (l : Bool) (bs : List ℕ) → length bs ≡ 384 → Each bs → bodiesOn (lineFrom 0 l bs) ≡ All bs
+unfolding bodiesOn
+read-back l [] n p = absurd (omega arith)
+read-back l (b ∷ bs) n p = rw (first-symbol l b bs, ← n) (read-from 0 l (b ∷ bs) p)
+
+-- ---- writing what was read
+
+joined : (i : ℕ) (a : SubframeAnswer) (g : LineRead) (bs : List ℕ) → before i a g ≡ All bs
+    → (b : ℕ) × (t : List ℕ) × (a ≡ Body b) × (g ≡ All t) × (b ∷ t ≡ bs)
+unfolding before
+joined i (Body b) (All t) bs e = (b, t, refl, refl, cc)
+joined i (Body b) (Stopped n p) bs e = absurd (let z : _≡_ {A = ℕ} 0 1 = cc in omega arith)
+joined i (Refused n) g bs e = absurd (let z : _≡_ {A = ℕ} 0 1 = cc in omega arith)
+
+-- what was read of n subframes: n bodies, of which this line is written
+pub record WasRead (n i : ℕ) (l : Bool) (os bs : List ℕ) : Type 0 where
+  pub many : length bs ≡ n
+  pub proper : Each bs
+  pub line : lineFrom i l bs ≡ os
+
+each-more : (b : ℕ) (t : List ℕ) → Proper b → Each t → Each (b ∷ t)
+each-more b t p q zero = p
+each-more b t p q (suc i) = q i
+
+was-read : (n i : ℕ) (l : Bool) (os bs : List ℕ) → length os ≡ n * 8 → Below 256 os → bodiesFrom n i l os ≡ All bs → WasRead n i l os bs
+unfolding bodiesFrom lineFrom
+was-read zero i l [] bs len h e =
+    let z : _≡_ {A = List ℕ} [] bs = cc in
+    subst (λ (t : List ℕ). WasRead 0 i l [] t) z (record { many = refl; proper = λ j. proper-zero; line = refl })
+was-read zero i l (o ∷ os) bs len h e = absurd (omega arith)
+was-read (suc m) i l os bs len h e =
+    let f = take 8 os in
+    let k : length f ≡ 8 = length-take-le 8 os (omega arith) in
+    let j = joined i (subframeRead i l (symbols f)) (bodiesFrom m (suc i) (left l (symbols f)) (drop 8 os)) bs e in
+    let n : length (symbols f) ≡ 64 = length-chain (highest 8) f ∙ ap (λ (x : ℕ). x * 8) k in
+    let w : subframe i l (j .0) ≡ symbols f = written-read i l (symbols f) (j .0) n (j .2) in
+    let o : octets 8 (symbols f) ≡ f = rw k at (octets-symbols f (below-take 256 8 os h)) in
+    let r : WasRead m (suc i) (left l (symbols f)) (drop 8 os) (j .1) =
+    was-read m (suc i) (left l (symbols f)) (drop 8 os) (j .1) (rw length-drop (omega arith)) (below-drop 256 8 os h) (j .3) in
+    record {
+      many = ap length (sym (j .4)) ∙ ap suc (r .many);
+      proper = subst Each (j .4) (each-more (j .0) (j .1) (read-proper i l (symbols f) (j .0) n (j .2)) (r .proper));
+      line = rw (← j .4, w, o, r .line) (take-append-drop 8 os);
+    }
+
+-- what the reader of a block accepts: 384 bodies, of which this line is written after the level that the reader takes
+pub write-back : (os bs : List ℕ) → length os ≡ 3072 → Below 256 os → bodiesOn os ≡ All bs → WasRead 384 0 (levelBefore os) os bs
+unfolding bodiesOn
+write-back os bs n h e = was-read 384 0 (levelBefore os) os bs n h e

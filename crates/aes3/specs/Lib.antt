@@ -1,0 +1,4 @@
+pub mod Subframe
+pub mod Line
+pub mod Block
+pub mod Inner

@@ -1,0 +1,288 @@
+// AES3 on the line: 384 samples and a side table written as a block of 3,072 octets, and such a block read.
+ghost use mathlib.Core.Path.{_≡_};
+ghost use Prim.Native.Nat.{_<_};
+ghost use lib.ListN.{length};
+ghost use Rattle.bits.specs.Row.{odd, digit, bits, big};
+ghost use Rattle.bits.specs.Pack.{octets, symbols};
+ghost use Rattle.line.specs.Biphase.{slots, left};
+ghost use Rattle.block.specs.Check.{statusRight};
+ghost use Rattle.aes3.specs.Subframe.{preamble, subframe, subframeRead, subframeNumber};
+ghost use Rattle.aes3.specs.Line.{bodiesOn};
+ghost use Rattle.aes3.specs.Block.{blockLine, writeAnswer, lineWritten, readAnswer, samplesRead, sideRead};
+ghost use Rattle.aes3.specs.Inner.{eightTable, backTable, fourHeld, slotsHeld, decoded};
+
+mod tables;
+
+use block::BlockAnswer;
+use tables::BACK;
+use tables::EIGHT;
+
+// What writing a block answers.
+pub enum WriteAnswer {
+    Written,
+    Refused { number: u32, place: u32 },
+}
+
+// What reading a block answers: for each channel 1 where its CRCC is right, else 0; or a refusal.
+pub enum ReadAnswer {
+    Read { crcc_a: u32, crcc_b: u32 },
+    Refused { number: u32, place: u32 },
+}
+
+// A subframe read: its body, or the number of the rule that broke first.
+pub enum SubframeAnswer {
+    Body(u32),
+    Refused(u32),
+}
+
+// All subframes of a line read, or the first refusal.
+pub enum Decoded {
+    Whole,
+    Refused { number: u32, place: u32 },
+}
+
+// The octet of the preamble that opens subframe i after a level.
+fn mark(i: usize, level: u32) -> u8
+    requires { ⌜ level < 2 ⌝ }
+    ensures { λ r. ⌜ r ≡ big (preamble i (odd level)) ⌝ }
+{
+    if level == 0 {
+        if i == 0 {
+            return 0b11101000;
+        }
+        if i % 2 == 1 {
+            return 0b11100100;
+        }
+        return 0b11100010;
+    }
+    if i == 0 {
+        return 0b00010111;
+    }
+    if i % 2 == 1 {
+        return 0b00011011;
+    }
+    0b00011101
+}
+
+// The sixteen symbols of eight slots that hold the lowest bits of d, lowest first, after symbols whose last is the lowest bit of `before`.
+fn eight(table: &[u16], before: u32, d: u32) -> u32
+    requires { ⌜ now table ≡ eightTable ⌝ }
+    ensures { λ r. ⌜ (r ≡ big (slots (odd before) (bits 8 d))) × (r < 65536) ⌝ }
+{
+    let at = (d % 256) as usize;
+    let s = table[at] as u32;
+    if before % 2 == 0 {
+        return s;
+    }
+    65535 - s
+}
+
+// Subframe i into eight octets; the level that it leaves.
+fn write_subframe(table: &[u16], i: usize, level: u32, body: u32, part: &mut [u8]) -> u32
+    requires { ⌜ (now table ≡ eightTable) × (level < 2) × (length (now part) ≡ 8) ⌝ }
+    ensures { λ r. ⌜ (now (part .exit) ≡ octets 8 (subframe i (odd level) body)) × (r ≡ digit (left (odd level) (subframe i (odd level) body))) ⌝ }
+{
+    let x = body / 16;
+    let a = eight(table, level, x);
+    let b = eight(table, a, x / 256);
+    let c = eight(table, b, x / 65536);
+    let d = eight(table, c, x / 16777216);
+    part[0] = mark(i, level);
+    part[1] = (a / 256) as u8;
+    part[2] = (a % 256) as u8;
+    part[3] = (b / 256) as u8;
+    part[4] = (b % 256) as u8;
+    part[5] = (c / 256) as u8;
+    part[6] = (c % 256) as u8;
+    part[7] = (d / 256) as u8;
+    d / 256 % 2
+}
+
+// All subframes of a block into its line.
+fn write_line(table: &[u16], samples: &[i32], side: &[u8], level: u32, line: &mut [u8])
+    requires { ⌜ (now table ≡ eightTable) × (length (now samples) ≡ 384) × (length (now side) ≡ 144) × (level < 2) × (length (now line) ≡ 3072) ⌝ }
+    ensures { λ _. ⌜ now (line .exit) ≡ blockLine (now (samples .entry)) (now (side .entry)) level ⌝ }
+{
+    let mut l = level;
+    let mut i: usize = 0;
+    while i < 384 {
+        let a = i * 8;
+        let e = a + 8;
+        let body = block::body_at(samples, side, i);
+        l = write_subframe(table, i, l, body, &mut line[a..e]);
+        i += 1;
+    }
+}
+
+// Writes a block after a level. A refusal leaves the line as it was.
+pub fn write_block(samples: &[i32], side: &[u8], level: u32, line: &mut [u8]) -> WriteAnswer
+    ensures { λ r. ⌜ r ≡ writeAnswer (now (samples .entry)) (now (side .entry)) level (length (now (line .entry))) ⌝ }
+    ensures { λ _. ⌜ now (line .exit) ≡ lineWritten (now (samples .entry)) (now (side .entry)) level (now (line .entry)) ⌝ }
+{
+    if samples.len() != 384 {
+        return WriteAnswer::Refused {
+            number: 1,
+            place: 0,
+        };
+    }
+    if side.len() != 144 {
+        return WriteAnswer::Refused {
+            number: 1,
+            place: 0,
+        };
+    }
+    if line.len() != 3072 {
+        return WriteAnswer::Refused {
+            number: 1,
+            place: 0,
+        };
+    }
+    if 1 < level {
+        return WriteAnswer::Refused {
+            number: 2,
+            place: 0,
+        };
+    }
+    let found = block::check_block(samples, side);
+    if let BlockAnswer::Refused { number, place } = found {
+        return WriteAnswer::Refused { number, place };
+    }
+    let table = EIGHT;
+    write_line(&table, samples, side, level, line);
+    WriteAnswer::Written
+}
+
+// The four bits that octet o holds after the octet `before`; 128 where a slot does not begin with a change.
+fn back(table: &[u8], before: u8, o: u8) -> u32
+    requires { ⌜ now table ≡ backTable ⌝ }
+    ensures { λ r. ⌜ (r ≡ fourHeld before o) × (r < 129) ⌝ }
+{
+    let at = (before % 2) as usize * 256 + o as usize;
+    table[at] as u32
+}
+
+// The 28 bits of slots 4 to 31 of a subframe's eight octets; 2^28 where a slot does not begin with a change.
+fn read_slots(table: &[u8], part: &[u8]) -> u32
+    requires { ⌜ (now table ≡ backTable) × (length (now part) ≡ 8) ⌝ }
+    ensures { λ r. ⌜ r ≡ slotsHeld (now (part .entry)) ⌝ }
+{
+    let o0 = part[0];
+    let o1 = part[1];
+    let o2 = part[2];
+    let o3 = part[3];
+    let o4 = part[4];
+    let o5 = part[5];
+    let o6 = part[6];
+    let o7 = part[7];
+    let a = back(table, o0, o1);
+    let b = back(table, o1, o2);
+    let c = back(table, o2, o3);
+    let d = back(table, o3, o4);
+    let e = back(table, o4, o5);
+    let f = back(table, o5, o6);
+    let g = back(table, o6, o7);
+    if 127 < a + b + c + d + e + f + g {
+        return 268435456;
+    }
+    a + b * 16 + c * 256 + d * 4096 + e * 65536 + f * 1048576 + g * 16777216
+}
+
+// Eight octets read as subframe i after a level.
+fn read_subframe(table: &[u8], i: usize, level: u32, part: &[u8]) -> SubframeAnswer
+    requires { ⌜ (now table ≡ backTable) × (level < 2) × (length (now part) ≡ 8) ⌝ }
+    ensures { λ r. ⌜ r ≡ subframeRead i (odd level) (symbols (now (part .entry))) ⌝ }
+{
+    if part[0] != mark(i, level) {
+        return SubframeAnswer::Refused(7);
+    }
+    let d = read_slots(table, part);
+    if 268435455 < d {
+        return SubframeAnswer::Refused(8);
+    }
+    if u32::count_ones(d) % 2 == 1 {
+        return SubframeAnswer::Refused(9);
+    }
+    SubframeAnswer::Body(d * 16)
+}
+
+// The number of a subframe's answer; 0 for a body.
+fn number(answer: SubframeAnswer) -> u32
+    ensures { λ r. ⌜ r ≡ subframeNumber answer ⌝ }
+{
+    match answer {
+        SubframeAnswer::Body(_) => 0,
+        SubframeAnswer::Refused(n) => n,
+    }
+}
+
+// All subframes of a line, their bodies into a buffer; after a refusal the buffer holds those before it.
+fn decode(table: &[u8], line: &[u8], bodies: &mut [u32]) -> Decoded
+    requires { ⌜ (now table ≡ backTable) × (length (now line) ≡ 3072) × (length (now bodies) ≡ 384) ⌝ }
+    ensures { λ r. ⌜ decoded r (now (bodies .exit)) ≡ bodiesOn (now (line .entry)) ⌝ }
+{
+    let mut level = 1 - line[0] as u32 / 128;
+    let mut i: usize = 0;
+    while i < 384 {
+        let a = i * 8;
+        let e = a + 8;
+        let part = &line[a..e];
+        let answer = read_subframe(table, i, level, part);
+        let SubframeAnswer::Body(b) = answer else {
+            return Decoded::Refused {
+                number: number(answer),
+                place: i as u32,
+            };
+        };
+        bodies[i] = b;
+        level = part[7] as u32 % 2;
+        i += 1;
+    }
+    Decoded::Whole
+}
+
+// 1 where the CRCC of a channel is right, else 0.
+fn crcc(side: &[u8], channel: usize) -> u32
+    ensures { λ r. ⌜ r ≡ digit (statusRight (now (side .entry)) channel) ⌝ }
+{
+    if block::status_right(side, channel) {
+        return 1;
+    }
+    0
+}
+
+// Reads a block into samples and side table, and says whether the CRCC of each channel is right. A refusal leaves both buffers as they were.
+pub fn read_block(line: &[u8], samples: &mut [i32], side: &mut [u8]) -> ReadAnswer
+    ensures { λ r. ⌜ r ≡ readAnswer (now (line .entry)) (length (now (samples .entry))) (length (now (side .entry))) ⌝ }
+    ensures { λ _. ⌜ now (samples .exit) ≡ samplesRead (now (line .entry)) (now (samples .entry)) (length (now (side .entry))) ⌝ }
+    ensures { λ _. ⌜ now (side .exit) ≡ sideRead (now (line .entry)) (length (now (samples .entry))) (now (side .entry)) ⌝ }
+{
+    if line.len() != 3072 {
+        return ReadAnswer::Refused {
+            number: 1,
+            place: 0,
+        };
+    }
+    if samples.len() != 384 {
+        return ReadAnswer::Refused {
+            number: 1,
+            place: 0,
+        };
+    }
+    if side.len() != 144 {
+        return ReadAnswer::Refused {
+            number: 1,
+            place: 0,
+        };
+    }
+    let mut bodies = [0u32; 384];
+    let table = BACK;
+    let got = decode(&table, line, &mut bodies);
+    if let Decoded::Refused { number, place } = got {
+        return ReadAnswer::Refused { number, place };
+    }
+    block::fill_block(&bodies, samples, side);
+    ReadAnswer::Read {
+        crcc_a: crcc(side, 0),
+        crcc_b: crcc(side, 1),
+    }
+}

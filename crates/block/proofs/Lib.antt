@@ -1,0 +1,5 @@
+pub mod BlockLaws
+pub mod CheckLaws
+pub mod Octets
+pub mod Fields
+pub mod Columns

@@ -1,0 +1,304 @@
+// A block of 384 samples and its side table: its bodies, and back; and what a writer checks of it.
+ghost use mathlib.Core.Path.{_≡_};
+ghost use Prim.Native.Nat.{_*_, _<_};
+ghost use lib.ListN.{length, getD};
+ghost use Rattle.bits.specs.Pick.{first};
+ghost use Rattle.subframe.specs.Side.{columns, sideLength};
+ghost use Rattle.block.specs.Block.{sideAt, bodyGiven, samplesOf, sideOf, fillNumber, samplesFilled, sideFilled};
+ghost use Rattle.block.specs.Inner.{threeBits, threeOctets, channelSide};
+ghost use Rattle.block.specs.Check.{statusOf, statusRight, outside, consumer, wrong, someValid, unmarked, statusChecked, checked};
+
+mod tables;
+
+use subframe::BodyAnswer;
+use subframe::C;
+use subframe::COLUMNS;
+use subframe::SIDE;
+use subframe::U;
+use subframe::V;
+use tables::APART;
+
+// What checking a block answers.
+pub enum BlockAnswer {
+    Sound,
+    Refused { number: u32, place: u32 },
+}
+
+// ---- from samples and side table to bodies
+
+// V, U or C of subframe i.
+fn side_at(side: &[u8], field: usize, i: usize) -> u32
+    requires { ⌜ (length (now side) ≡ sideLength) × (field < columns) × (i < 384) ⌝ }
+    ensures { λ r. ⌜ r ≡ sideAt (now (side .entry)) field i ⌝ }
+{
+    let at = 24 * (COLUMNS * (i % 2) + field) + i / 16;
+    ((side[at] >> (i / 2 % 8)) % 2) as u32
+}
+
+// Body i of a block; 0 where a length is not that of a block, or where there is no such subframe.
+pub fn body_at(samples: &[i32], side: &[u8], i: usize) -> u32
+    ensures { λ r. ⌜ r ≡ bodyGiven (now (samples .entry)) (now (side .entry)) i ⌝ }
+{
+    if samples.len() != 384 {
+        return 0;
+    }
+    if side.len() != SIDE {
+        return 0;
+    }
+    if 384 <= i {
+        return 0;
+    }
+    let x = samples[i];
+    let v = side_at(side, V, i);
+    let u = side_at(side, U, i);
+    let c = side_at(side, C, i);
+    let BodyAnswer::Body(b) = subframe::write_body(x, v, u, c) else {
+        return 0;
+    };
+    b
+}
+
+// ---- what a writer checks
+
+// Whether the CRCC of a channel's status is right.
+pub fn status_right(side: &[u8], channel: usize) -> bool
+    ensures { λ r. ⌜ r ≡ statusRight (now (side .entry)) channel ⌝ }
+{
+    if side.len() != SIDE {
+        return false;
+    }
+    if 2 <= channel {
+        return false;
+    }
+    let a = 24 * (COLUMNS * channel + C);
+    let e = a + 24;
+    codes::crcc_right(&side[a..e])
+}
+
+// The first sample that is out of range, or 384.
+fn first_outside(samples: &[i32]) -> usize
+    requires { ⌜ length (now samples) ≡ 384 ⌝ }
+    ensures { λ r. ⌜ r ≡ first (outside (now (samples .entry))) 0 384 (λ i. i) 384 ⌝ }
+{
+    let mut i: usize = 0;
+    while i < 384 {
+        let x = samples[i];
+        if subframe::in_range(x) {
+            i += 1;
+        } else {
+            return i;
+        }
+    }
+    i
+}
+
+// Byte 0 of a channel's status.
+fn status_byte(side: &[u8], channel: usize) -> u8
+    requires { ⌜ (length (now side) ≡ sideLength) × (channel < 2) ⌝ }
+    ensures { λ r. ⌜ r ≡ getD (statusOf channel (now (side .entry))) 0 0 ⌝ }
+{
+    side[24 * (COLUMNS * channel + C)]
+}
+
+// Whether byte 0 bit 0 is 0.
+fn is_consumer(side: &[u8], channel: usize) -> bool
+    requires { ⌜ (length (now side) ≡ sideLength) × (channel < 2) ⌝ }
+    ensures { λ r. ⌜ r ≡ consumer (now (side .entry)) channel ⌝ }
+{
+    status_byte(side, channel) % 2 == 0
+}
+
+// Whether byte 23 is wrong.
+fn is_wrong(side: &[u8], channel: usize) -> bool
+    requires { ⌜ (length (now side) ≡ sideLength) × (channel < 2) ⌝ }
+    ensures { λ r. ⌜ r ≡ wrong (now (side .entry)) channel ⌝ }
+{
+    if status_right(side, channel) {
+        return false;
+    }
+    true
+}
+
+// Whether some V of the channel is 0: an octet of V is not all ones.
+fn has_valid(side: &[u8], channel: usize) -> bool
+    requires { ⌜ (length (now side) ≡ sideLength) × (channel < 2) ⌝ }
+    ensures { λ r. ⌜ r ≡ someValid (now (side .entry)) channel ⌝ }
+{
+    let at = 24 * (COLUMNS * channel + V);
+    let mut j = 0;
+    while j < 24 {
+        if side[at + j] != 255 {
+            return true;
+        }
+        j += 1;
+    }
+    false
+}
+
+// Whether byte 0 bit 1 is 1 and some V of the channel is 0.
+fn is_unmarked(side: &[u8], channel: usize) -> bool
+    requires { ⌜ (length (now side) ≡ sideLength) × (channel < 2) ⌝ }
+    ensures { λ r. ⌜ r ≡ unmarked (now (side .entry)) channel ⌝ }
+{
+    if status_byte(side, channel) / 2 % 2 != 1 {
+        return false;
+    }
+    has_valid(side, channel)
+}
+
+// Refusals 4, 5 and 6, each for both channels.
+fn check_status(side: &[u8]) -> BlockAnswer
+    requires { ⌜ length (now side) ≡ sideLength ⌝ }
+    ensures { λ r. ⌜ r ≡ statusChecked (now (side .entry)) ⌝ }
+{
+    if is_consumer(side, 0) {
+        return BlockAnswer::Refused {
+            number: 4,
+            place: 0,
+        };
+    }
+    if is_consumer(side, 1) {
+        return BlockAnswer::Refused {
+            number: 4,
+            place: 1,
+        };
+    }
+    if is_wrong(side, 0) {
+        return BlockAnswer::Refused {
+            number: 5,
+            place: 0,
+        };
+    }
+    if is_wrong(side, 1) {
+        return BlockAnswer::Refused {
+            number: 5,
+            place: 1,
+        };
+    }
+    if is_unmarked(side, 0) {
+        return BlockAnswer::Refused {
+            number: 6,
+            place: 0,
+        };
+    }
+    if is_unmarked(side, 1) {
+        return BlockAnswer::Refused {
+            number: 6,
+            place: 1,
+        };
+    }
+    BlockAnswer::Sound
+}
+
+// Refusals 1, 3, 4, 5 and 6 of a block.
+pub fn check_block(samples: &[i32], side: &[u8]) -> BlockAnswer
+    ensures { λ r. ⌜ r ≡ checked (now (samples .entry)) (now (side .entry)) ⌝ }
+{
+    if samples.len() != 384 {
+        return BlockAnswer::Refused {
+            number: 1,
+            place: 0,
+        };
+    }
+    if side.len() != SIDE {
+        return BlockAnswer::Refused {
+            number: 1,
+            place: 0,
+        };
+    }
+    let i = first_outside(samples);
+    if i < 384 {
+        return BlockAnswer::Refused {
+            number: 3,
+            place: i as u32,
+        };
+    }
+    check_status(side)
+}
+
+// ---- from bodies to samples and side table
+
+// The samples of 384 bodies.
+fn fill_samples(bodies: &[u32], samples: &mut [i32])
+    requires { ⌜ (length (now bodies) ≡ 384) × (length (now samples) ≡ 384) ⌝ }
+    ensures { λ r. ⌜ now (samples .exit) ≡ samplesOf (now (bodies .entry)) ⌝ }
+{
+    let mut i = 0;
+    while i < 384 {
+        let x = subframe::sample_of(bodies[i]);
+        samples[i] = x;
+        i += 1;
+    }
+}
+
+// V, U and C of slots 28 to 31, at weights 1, 2^8 and 2^16.
+fn apart(last: u32) -> u32
+    requires { ⌜ last < 16 ⌝ }
+    ensures { λ r. ⌜ r ≡ threeBits last ⌝ }
+{
+    APART[last as usize]
+}
+
+// Octet j of each of V, U and C of a channel, at weights 1, 2^8 and 2^16: eight of its bodies, the last first.
+fn three_octets(bodies: &[u32], channel: usize, j: usize) -> u32
+    requires { ⌜ (length (now bodies) ≡ 384) × (channel < 2) × (j < 24) ⌝ }
+    ensures { λ r. ⌜ r ≡ threeOctets (now (bodies .entry)) channel (j * 8) 8 ⌝ }
+{
+    let mut n: u32 = 0;
+    let mut m = 0;
+    while m < 8 {
+        let b = bodies[2 * (j * 8 + 7 - m) + channel];
+        n = n * 2 + apart(b / 268435456);
+        m += 1;
+    }
+    n
+}
+
+// V, U and C of a channel.
+fn fill_channel(bodies: &[u32], channel: usize, part: &mut [u8])
+    requires { ⌜ (length (now bodies) ≡ 384) × (channel < 2) × (length (now part) ≡ 24 * columns) ⌝ }
+    ensures { λ r. ⌜ now (part .exit) ≡ channelSide (now (bodies .entry)) channel ⌝ }
+{
+    let mut j = 0;
+    while j < 24 {
+        let n = three_octets(bodies, channel, j);
+        part[j] = (n % 256) as u8;
+        part[24 + j] = (n / 256 % 256) as u8;
+        part[48 + j] = (n / 65536) as u8;
+        j += 1;
+    }
+}
+
+// The side table of 384 bodies, channel by channel.
+fn fill_side(bodies: &[u32], side: &mut [u8])
+    requires { ⌜ (length (now bodies) ≡ 384) × (length (now side) ≡ sideLength) ⌝ }
+    ensures { λ r. ⌜ now (side .exit) ≡ sideOf (now (bodies .entry)) ⌝ }
+{
+    let mut k = 0;
+    while k < 2 {
+        let a = k * 72;
+        let e = a + 72;
+        fill_channel(bodies, k, &mut side[a..e]);
+        k += 1;
+    }
+}
+
+// The samples and the side table of 384 bodies, whatever stood in the buffers; gives 0, or refusal 1 where a length is not as stated.
+pub fn fill_block(bodies: &[u32], samples: &mut [i32], side: &mut [u8]) -> u32
+    ensures { λ r. ⌜ r ≡ fillNumber (now (bodies .entry)) (length (now (samples .entry))) (length (now (side .entry))) ⌝ }
+    ensures { λ r. ⌜ now (samples .exit) ≡ samplesFilled (now (bodies .entry)) (now (samples .entry)) (length (now (side .entry))) ⌝ }
+    ensures { λ r. ⌜ now (side .exit) ≡ sideFilled (now (bodies .entry)) (length (now (samples .entry))) (now (side .entry)) ⌝ }
+{
+    if bodies.len() != 384 {
+        return 1;
+    }
+    if samples.len() != 384 {
+        return 1;
+    }
+    if side.len() != SIDE {
+        return 1;
+    }
+    fill_samples(bodies, samples);
+    fill_side(bodies, side);
+    0
+}

@@ -1,0 +1,179 @@
+// The writer of HD audio data packets.
+ghost use mathlib.Core.Path.{_≡_};
+ghost use mathlib.Core.List.{[], _∷_, _++_};
+ghost use lib.ListN.{length, replicate};
+ghost use Rattle.hd_packet.specs.Packet.{dataOctets};
+ghost use Rattle.hd_write.specs.Write.{inRanges, writeAnswer, wordsWritten};
+ghost use Rattle.hd_write.specs.Inner.{Ranges, firstOdd, firstLow};
+
+// What writing answers: the packet stands in the words, or document 01's number and place.
+pub enum WriteAnswer {
+    Written,
+    Refused { number: u32, place: u32 },
+}
+
+// Group 1 to 4, DBN to 255, clock phase to 4,095, ck12 and both Z 0 or 1.
+fn in_ranges(group: u32, dbn: u32, phase: u32, ck12: u32, z1: u32, z2: u32) -> bool
+    ensures { λ r. ⌜ r ≡ inRanges group dbn phase ck12 z1 z2 ⌝ }
+{
+    if group < 1 {
+        return false;
+    }
+    if 4 < group {
+        return false;
+    }
+    if 255 < dbn {
+        return false;
+    }
+    if 4095 < phase {
+        return false;
+    }
+    if 1 < ck12 {
+        return false;
+    }
+    if 1 < z1 {
+        return false;
+    }
+    z2 <= 1
+}
+
+// The first body with an odd number of ones in slots 4 to 31, or how many bodies there are.
+fn first_odd(bodies: &[u32]) -> usize
+    ensures { λ r. ⌜ r ≡ firstOdd (now (bodies .entry)) ⌝ }
+{
+    let mut i = 0;
+    while i < bodies.len() {
+        if u32::count_ones(bodies[i] / 16) % 2 != 0 {
+            return i;
+        }
+        i += 1;
+    }
+    i
+}
+
+// The first body with one of its low four bits set, or how many bodies there are.
+fn first_low(bodies: &[u32]) -> usize
+    ensures { λ r. ⌜ r ≡ firstLow (now (bodies .entry)) ⌝ }
+{
+    let mut i = 0;
+    while i < bodies.len() {
+        if bodies[i] % 16 != 0 {
+            return i;
+        }
+        i += 1;
+    }
+    i
+}
+
+// Words 0 to 23, with room for the check words.
+fn lay_data(
+    group: u32,
+    dbn: u32,
+    phase: u32,
+    ck12: u32,
+    z1: u32,
+    z2: u32,
+    a: u32,
+    b: u32,
+    c: u32,
+    d: u32,
+) -> [u8; 30]
+    requires { ⌜ Ranges group dbn phase ck12 z1 z2 ⌝ }
+    ensures { λ r. ⌜ r ≡ dataOctets group dbn phase ck12 z1 z2 (a ∷ b ∷ c ∷ d ∷ []) ++ replicate 6 0 ⌝ }
+{
+    [
+        0,
+        255,
+        255,
+        (232 - group) as u8,
+        dbn as u8,
+        24,
+        (phase % 256) as u8,
+        (phase / 256 + ck12 * 16) as u8,
+        (a / 16 % 16 * 16 + z1 * 8) as u8,
+        (a / 256 % 256) as u8,
+        (a / 65536 % 256) as u8,
+        (a / 16777216 % 256) as u8,
+        (b / 16 % 16 * 16) as u8,
+        (b / 256 % 256) as u8,
+        (b / 65536 % 256) as u8,
+        (b / 16777216 % 256) as u8,
+        (c / 16 % 16 * 16 + z2 * 8) as u8,
+        (c / 256 % 256) as u8,
+        (c / 65536 % 256) as u8,
+        (c / 16777216 % 256) as u8,
+        (d / 16 % 16 * 16) as u8,
+        (d / 256 % 256) as u8,
+        (d / 65536 % 256) as u8,
+        (d / 16777216 % 256) as u8,
+        0,
+        0,
+        0,
+        0,
+        0,
+        0,
+    ]
+}
+
+// Writes the packet of these fields and four bodies into 31 words: refusals 1, 2, 9 over all bodies, 12 over all bodies.
+pub fn write_packet(
+    group: u32,
+    dbn: u32,
+    phase: u32,
+    ck12: u32,
+    z1: u32,
+    z2: u32,
+    bodies: &[u32],
+    words: &mut [u16],
+) -> WriteAnswer
+    ensures { λ r. ⌜ r ≡ writeAnswer group dbn phase ck12 z1 z2 (now (bodies .entry)) (length (now (words .entry))) ⌝ }
+    ensures { λ r. ⌜ now (words .exit) ≡ wordsWritten group dbn phase ck12 z1 z2 (now (bodies .entry)) (now (words .entry)) ⌝ }
+{
+    if bodies.len() != 4 {
+        return WriteAnswer::Refused {
+            number: 1,
+            place: 0,
+        };
+    }
+    if words.len() != 31 {
+        return WriteAnswer::Refused {
+            number: 1,
+            place: 0,
+        };
+    }
+    if in_ranges(group, dbn, phase, ck12, z1, z2) {
+        let odd = first_odd(bodies);
+        if odd < 4 {
+            return WriteAnswer::Refused {
+                number: 9,
+                place: odd as u32,
+            };
+        }
+        let low = first_low(bodies);
+        if low < 4 {
+            return WriteAnswer::Refused {
+                number: 12,
+                place: low as u32,
+            };
+        }
+        let mut octets = lay_data(
+            group,
+            dbn,
+            phase,
+            ck12,
+            z1,
+            z2,
+            bodies[0],
+            bodies[1],
+            bodies[2],
+            bodies[3],
+        );
+        hd_lanes::fill_checks(&mut octets);
+        hd_packet::lay_packet(&octets, words);
+        return WriteAnswer::Written;
+    }
+    WriteAnswer::Refused {
+        number: 2,
+        place: 0,
+    }
+}

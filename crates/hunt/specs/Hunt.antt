@@ -1,0 +1,68 @@
+-- Finding a block start in a line that is not aligned to octets. T symbols; candidates are p from 1 to T - 72; p fits when the eight
+-- symbols at p are Z after symbol p - 1 and the eight at p + 64 are Y after symbol p + 63. Assumes nothing.
+use mathlib.Core.Path.{_≡_}
+use Prim.Native.Nat.{ℕ, _+_, _-_, _*_, _≤_, _<_}
+use mathlib.Core.Bool.{Bool, true, false, not, xor, _&&_}
+use mathlib.Core.List.{List, [], _∷_, map}
+use lib.Dec.{ltb}
+use lib.ListN.{getD, length}
+use Rattle.bits.specs.Pick.{pick, first}
+use Rattle.bits.specs.Row.{Row}
+use Rattle.bits.specs.Window.{part}
+use Rattle.bits.specs.Pack.{symbols}
+use Rattle.line.specs.Preamble.{preambleY, preambleZ, afterLevel}
+use Rattle.hunt.specs.declared.Found.{Found}
+use Rattle.hunt.specs.declared.Found.the-variants.{At, Refused}
+
+-- whether two rows are the same
+unfoldable pub same : Row → Row → Bool
+same [] [] = true
+same [] (c ∷ s) = false
+same (b ∷ r) [] = false
+same (b ∷ r) (c ∷ s) = not (xor b c) && same r s
+
+-- whether the eight symbols at p are a preamble after symbol p - 1
+unfoldable pub opens : Row → ℕ → Row → Bool
+opens r p preamble = same (part r p 8) (afterLevel (getD r (p - 1) false) preamble)
+
+unfoldable pub fits : Row → ℕ → Bool
+fits r p = opens r p preambleZ && opens r (p + 64) preambleY
+
+-- the smallest candidate that fits, else 17; a line of more than 8,192 octets gets 1
+unfoldable pub hunted : List ℕ → Found
+hunted line =
+    pick (ltb 8192 (length line)) (Refused 1 0)
+    (first (fits (symbols line)) 1 (length line * 8 - 72) At (Refused 17 0))
+
+-- ---- what the answer means
+
+-- a candidate that fits
+pub record Start (line : List ℕ) (p : ℕ) : Type 0 where
+  pub from : 1 ≤ p
+  pub to : p + 72 ≤ length line * 8
+  pub z : part (symbols line) p 8 ≡ afterLevel (getD (symbols line) (p - 1) false) preambleZ
+  pub y : part (symbols line) (p + 64) 8 ≡ afterLevel (getD (symbols line) (p + 63) false) preambleY
+
+-- the answers that are right for a line: the smallest start, 17 where there is none, 1 for a line that is too long
+pub data Right (line : List ℕ) : Found → Type 0 where
+  smallest : {p : ℕ} → length line ≤ 8192 → Start line p → ((q : ℕ) → Start line q → p ≤ q) → Right line (At p)
+  none : length line ≤ 8192 → ((q : ℕ) → Start line q → ⊥) → Right line (Refused 17 0)
+  tooLong : 8192 < length line → Right line (Refused 1 0)
+
+-- the line with every symbol inverted
+unfoldable pub inverted : List ℕ → List ℕ
+inverted line = map (λ o. 255 - o) line
+
+-- ---- the number, the place and the position that document 01 gives an answer
+
+abbrev pub foundNumber : Found → ℕ
+foundNumber (At p) = 0
+foundNumber (Refused number place) = number
+
+abbrev pub foundPlace : Found → ℕ
+foundPlace (At p) = 0
+foundPlace (Refused number place) = place
+
+abbrev pub foundPosition : Found → ℕ
+foundPosition (At p) = p
+foundPosition (Refused number place) = 0

@@ -1,0 +1,4 @@
+pub mod Residues
+pub mod LineResidues
+pub mod PacketResidues
+pub mod Examples

@@ -1,0 +1,6 @@
+pub mod Bodies
+pub mod Codes
+pub mod Status
+pub mod Lines
+pub mod Packets
+pub mod Residue

@@ -1,0 +1,9 @@
+pub mod Lines
+pub mod Sending
+pub mod ReadWritten
+pub mod Accepting
+pub mod Standing
+pub mod CountsStood
+pub mod LastSyncs
+pub mod Words
+pub mod WriteBack

@@ -1,0 +1,116 @@
+-- The words that the writer sends are words that the reader takes, each in its place. Assumes nothing.
+use mathlib.Core.Path.{_≡_, refl, sym, ap, ap₂, _∙_}
+use mathlib.Core.Logic.{⊎-elim}
+use mathlib.Core.Bool.{Bool, true, false}
+use mathlib.Core.List.{List, _++_}
+use Prim.Native.Nat.{ℕ, zero, suc, _+_, _*_, _-_, _/_, _%_, _^_, _≤_, _<_, min}
+use native.Mathlib.Nat.{zero-div, div-one}
+use native.Mathlib.Omega.{arith}
+use native.Mathlib.Decide.{decLt, ℕ-discrete}
+use borrow.Author.Tests.{lt-ltb, le-ltb, eq-eqb, ne-eqb}
+use lib.Dec.{eqb, ltb}
+use lib.ListN.{length, getD, replicate, length-append, length-replicate, getD-replicate, List·getD-append}
+use lib.Seq.{getD-append-add}
+use Rattle.bits.specs.Pick.{pick}
+use Rattle.bits.specs.Row.{bit, bits, even, count, Below}
+use Rattle.subframe.specs.Body.{slots}
+use Rattle.madi_code.specs.Frame.{evenBody}
+use Rattle.madi_read.specs.Reader.{firstRight, activeRight, slotOf, cleared}
+use Rattle.madi_read.specs.declared.Piece.{Piece}
+use Rattle.madi_read.specs.declared.Piece.the-variants.{Slot}
+use Rattle.madi_write.specs.Inner.{sentWord}
+use Rattle.madi_write.proofs.Checks.{Clean}
+use Rattle.madi.specs.Units.{padded}
+
+-- bits 0 to 3 play no part in the parity
+pub even-same : (v w : ℕ) → v / 16 ≡ w / 16 → evenBody v ≡ evenBody w
+unfolding evenBody slots
+even-same v w e = rw e
+
+pub even-zero : evenBody 0 ≡ true
+unfolding evenBody slots bits count
+even-zero = refl
+
+-- what the writer's checks leave of its words
+module _ (words : List ℕ) (ok : Clean words) (small : Below (2 ^ 32) words) where
+  active-word : (n : ℕ) → n < length words → sentWord words n ≡ getD words n 0 + pick (eqb n 0) 3 2
+  unfolding sentWord
+  active-word n h = rw (lt-ltb n (length words) h)
+
+  idle-word : (n : ℕ) → length words ≤ n → sentWord words n ≡ 0
+  unfolding sentWord
+  idle-word n h = rw (le-ltb n (length words) h)
+
+  -- bits 0 and 1 of an active word
+  marks : (n : ℕ) → (e : ℕ) × (pick (eqb n 0) 3 2 ≡ 2 + e) × (e < 2) × (pick (eqb n 0) 1 0 ≡ e)
+  marks n = go (eqb n 0)
+    where
+      go : (t : Bool) → (e : ℕ) × (pick t 3 2 ≡ 2 + e) × (e < 2) × (pick t 1 0 ≡ e)
+      go true = (1, refl, omega arith, refl)
+      go false = (0, refl, omega arith, refl)
+
+  pub sent-small : (n : ℕ) → sentWord words n < 2 ^ 32
+  sent-small n = go (decLt n (length words))
+    where
+      go : Dec (n < length words) → sentWord words n < 2 ^ 32
+      go (yes h) = omega (arith, active-word n h, marks n .1, marks n .2, ok .clean n, small n)
+      go (no h) = omega (arith, idle-word n (omega arith))
+
+  pub sent-bit : (n : ℕ) → min n (length words) + bit 1 (sentWord words n) ≡ min (n + 1) (length words)
+  sent-bit n = go (decLt n (length words))
+    where
+      go : Dec (n < length words) → min n (length words) + bit 1 (sentWord words n) ≡ min (n + 1) (length words)
+      go (yes h) = omega (arith, active-word n h, marks n .1, marks n .2, ok .clean n)
+      go (no h) = omega (arith, idle-word n (omega arith))
+
+  first-ok : (n : ℕ) → 1 ≤ length words → firstRight n (sentWord words n) ≡ true
+  first-ok n some = go (decLt n (length words))
+    where
+      go : Dec (n < length words) → firstRight n (sentWord words n) ≡ true
+      go (yes h) =
+          rw (marks n .3)
+          (eq-eqb (bit 0 (sentWord words n)) (marks n .0) (omega (arith, active-word n h, marks n .1, marks n .2, ok .clean n, div-one (sentWord words n))))
+      go (no h) =
+          let none : _≡_ {A = ℕ} (pick (eqb n 0) 1 0) 0 = rw (ne-eqb n 0 (λ z. omega arith)) in
+          rw none (eq-eqb (bit 0 (sentWord words n)) 0 (omega (arith, idle-word n (omega arith), div-one (sentWord words n))))
+
+  active-ok : (n : ℕ) → activeRight n (min n (length words)) (sentWord words n) ≡ true
+  active-ok n = go (decLt n (length words))
+    where
+      go : Dec (n < length words) → activeRight n (min n (length words)) (sentWord words n) ≡ true
+      go (yes h) =
+          rw (eq-eqb (bit 1 (sentWord words n)) 1 (omega (arith, active-word n h, marks n .1, marks n .2, ok .clean n)))
+          (eq-eqb n (min n (length words)) (omega arith))
+      go (no h) =
+          let z : sentWord words n ≡ 0 = idle-word n (omega arith) in
+          rw z
+
+  even-ok : (n : ℕ) → evenBody (sentWord words n) ≡ true
+  even-ok n = go (decLt n (length words))
+    where
+      go : Dec (n < length words) → evenBody (sentWord words n) ≡ true
+      go (yes h) =
+          even-same (sentWord words n) (getD words n 0) (omega (arith, active-word n h, marks n .1, marks n .2, ok .clean n)) ∙ ok .even n h
+      go (no h) = ap evenBody (idle-word n (omega arith)) ∙ even-zero
+
+  pub slot-right : (n : ℕ) → 1 ≤ length words → slotOf n (min n (length words)) (sentWord words n) ≡ Slot (sentWord words n)
+  slot-right n some = rw (first-ok n some, active-ok n, even-ok n)
+
+  -- with bits 0 and 1 cleared they are the given words, and zeros
+  pub padded-at : (channels n : ℕ) → n < channels → getD (padded channels words) n 0 ≡ cleared (sentWord words n)
+  unfolding padded
+  padded-at channels n h = go (decLt n (length words))
+    where
+      go : Dec (n < length words) → getD (words ++ replicate (channels - length words) 0) n 0 ≡ cleared (sentWord words n)
+      go (yes q) =
+          List·getD-append words (replicate (channels - length words) 0) 0 n q ∙ omega (arith, active-word n q, marks n .1, marks n .2, ok .clean n)
+      go (no q) =
+          let e : length words + (n - length words) ≡ n = omega arith in
+          ap (λ (i : ℕ). getD (words ++ replicate (channels - length words) 0) i 0) (sym e)
+          ∙ getD-append-add words (replicate (channels - length words) 0) (n - length words) 0
+          ∙ getD-replicate (channels - length words) (n - length words) 0 0 (omega arith) ∙ sym (ap cleared (idle-word n (omega arith)))
+
+pub length-padded : (channels : ℕ) (words : List ℕ) → length words ≤ channels → length (padded channels words) ≡ channels
+unfolding padded
+length-padded channels words h =
+    length-append words (replicate (channels - length words) 0) ∙ omega (arith, length-replicate {A = ℕ} (channels - length words) 0)

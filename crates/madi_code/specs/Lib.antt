@@ -1,0 +1,4 @@
+pub mod Groups
+pub mod Channels
+pub mod Frame
+pub mod Inner

@@ -1,0 +1,69 @@
+-- `madi_read::read_checked` meets its contract: the walk, then the copy. Assumes nothing.
+use mathlib.Core.Path.{_≡_, refl, sym, ap, _∙_, subst}
+use Prim.Native.Nat.{ℕ, _≤_}
+use native.Mathlib.Omega.{arith}
+use borrow.Author.Needs.{needs}
+use lib.ListN.{length, take}
+use Rattle.madi_read.specs.Reader.{carried, Reading, readRow, answerOf, wordsOf}
+use Rattle.madi_read.specs.Inner.{Held}
+use Rattle.madi_read.proofs.Admitting.{taken-is, refused-is}
+use Rattle.madi_read.proofs.read_checked.Statement.{statement}
+use Rattle.madi_read.proofs.read_checked.Tie as tie
+
+slice-aggregate-walk : tie.Need-slice-aggregate-walk
+slice-aggregate-walk c = search needs
+
+walk-requires : tie.Need-walk-requires
+walk-requires c κs = search needs
+
+enum-known-answer : tie.Need-enum-known-answer
+enum-known-answer c = search needs
+
+slice-aggregate-copy : tie.Need-slice-aggregate-copy
+slice-aggregate-copy c = search needs
+
+copy-requires : tie.Need-copy-requires
+copy-requires c κs = search needs
+
+enum-known-answer-2 : tie.Need-enum-known-answer-2
+enum-known-answer-2 c = search needs
+
+same-length : tie.Need-same-length
+same-length c = search needs
+
+returns : tie.Need-returns
+returns c =
+    let w = c .before .before .before .before .before .before .before .before .before in
+    let s = w .before .before .before .before in
+    let a = s .args in
+    let g = c .before .before .before .before .before .before .answer .given in
+    let held = w .walk .last .1 .1 .1 .1 .0 in
+    let t = taken-is (readRow (carried (a .level) (a .bits) (a .line .now)) (a .channels)) (g .0 .0) (g .0 .1 .0) (sym (w .walk .ensures .0) ∙ g .1) in (
+      sym (ap answerOf (t .1)),
+      c .before .before .copy .ensures ∙ ap (λ (k : ℕ). take k held) (s .pre .4)
+          ∙ subst (λ (r : Reading). Held (a .channels) r held) (t .1) (w .walk .ensures .1)
+          ∙ sym (ap (λ (r : Reading). wordsOf r (a .words .now)) (t .1)),
+    )
+
+returns-2 : tie.Need-returns-2
+returns-2 c =
+    let w = c .before .before .before .before in
+    let s = w .before .before .before .before in
+    let a = s .args in
+    let g = c .before .answer2 .given in
+    let t = refused-is (readRow (carried (a .level) (a .bits) (a .line .now)) (a .channels)) (g .0 .0) (g .0 .1 .0) (sym (w .walk .ensures .0) ∙ g .1) in
+    (sym (ap answerOf t), sym (ap (λ (r : Reading). wordsOf r (a .words .now)) t))
+
+pub read-checked-spec : {M : Type 1} → statement M
+read-checked-spec =
+    tie.close
+    (tie.spec
+    slice-aggregate-walk
+    walk-requires
+    enum-known-answer
+    slice-aggregate-copy
+    copy-requires
+    enum-known-answer-2
+    same-length
+    returns
+    returns-2)

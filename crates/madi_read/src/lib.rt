@@ -1,0 +1,288 @@
+// The MADI reader: what the line carries, a boundary, a frame.
+ghost use mathlib.Core.Path.{_≡_};
+ghost use mathlib.Core.List.{_∷_};
+ghost use Prim.Native.Nat.{_+_, _*_, _/_, _<_, _≤_};
+ghost use lib.ListN.{length, take};
+ghost use Rattle.bits.specs.Row.{odd};
+ghost use Rattle.bits.specs.Window.{window};
+ghost use Rattle.bits.specs.Pack.{symbols};
+ghost use Rattle.line.specs.Nrzi.{changes};
+ghost use Rattle.madi_code.specs.Frame.{boundary};
+ghost use Rattle.madi_code.specs.Inner.{Octets};
+ghost use Rattle.madi_read.specs.Reader.{carried, firstRight, activeRight, slotOf, endOf, syncOf, isSync, pieceAt, readRow, readFrame, answerOf, wordsOf, inRange, spareZero};
+ghost use Rattle.madi_read.specs.Inner.{Held, shortPiece};
+use madi_code::Channel;
+
+// What stands at a boundary of a frame.
+pub enum Piece {
+    End,
+    Sync,
+    Slot(u32),
+    Bad { number: u32, place: u32 },
+}
+
+// What reading a frame answers: how many channels are active and how many syncs came, or a refusal's number and place.
+pub enum ReadAnswer {
+    Read { active: u32, syncs: u32 },
+    Refused { number: u32, place: u32 },
+}
+
+// The level before bit `at` of the line and the n levels from there on, as a number.
+fn levels_at(line: &[u8], level: u32, at: usize, n: usize) -> u64
+    requires { ⌜ (level ≤ 1) × (n ≤ 40) × (at + n ≤ length (now line) * 8) ⌝ }
+    ensures { λ r. ⌜ r ≡ window (odd level ∷ symbols (now (line .entry))) at (n + 1) ⌝ }
+{
+    if at == 0 {
+        let v = line::load(line, 0, n);
+        return ((level as u64) << n) + v;
+    }
+    line::load(line, at - 1, n + 1)
+}
+
+// The n bits that the line carries from bit `at` on, as a number: each level against the one before, all at once.
+fn bits_at(line: &[u8], level: u32, at: usize, n: usize) -> u64
+    requires { ⌜ (level ≤ 1) × (n ≤ 40) × (at + n ≤ length (now line) * 8) ⌝ }
+    ensures { λ r. ⌜ r ≡ window (changes (odd level) (symbols (now (line .entry)))) at n ⌝ }
+{
+    let v = levels_at(line, level, at, n);
+    (v ^ (v / 2)) % (1u64 << n)
+}
+
+// Bit 0 is set on channel 0 only.
+fn first_right(n: u32, w: u32) -> bool
+    ensures { λ r. ⌜ r ≡ firstRight n w ⌝ }
+{
+    if n == 0 {
+        return w % 2 == 1;
+    }
+    w % 2 == 0
+}
+
+// An active channel follows the active ones without a gap; an inactive one is all zero.
+fn active_right(n: u32, active: u32, w: u32) -> bool
+    ensures { λ r. ⌜ r ≡ activeRight n active w ⌝ }
+{
+    if w / 2 % 2 == 1 {
+        return n == active;
+    }
+    w == 0
+}
+
+// A channel's word in its place: its required bits, then its parity.
+fn slot_of(n: u32, active: u32, w: u32) -> Piece
+    ensures { λ r. ⌜ r ≡ slotOf n active w ⌝ }
+{
+    if first_right(n, w) {
+        if active_right(n, active, w) {
+            if madi_code::is_even(w) {
+                return Piece::Slot(w);
+            }
+            return Piece::Bad {
+                number: 9,
+                place: n,
+            };
+        }
+    }
+    Piece::Bad {
+        number: 12,
+        place: n,
+    }
+}
+
+// The end of a frame: all channels and a sync.
+fn end_of(channels: u32, n: u32, s: u32, at: u32) -> Piece
+    ensures { λ r. ⌜ r ≡ endOf channels n s at ⌝ }
+{
+    if n == channels {
+        if 0 < s {
+            return Piece::End;
+        }
+    }
+    Piece::Bad {
+        number: 10,
+        place: at,
+    }
+}
+
+fn sync_of(s: u32, at: u32) -> Piece
+    ensures { λ r. ⌜ r ≡ syncOf s at ⌝ }
+{
+    if s < 255 {
+        return Piece::Sync;
+    }
+    Piece::Bad {
+        number: 10,
+        place: at,
+    }
+}
+
+// What stands where fewer than 40 bits are left, and at least one: a sync, or no whole unit.
+fn short_piece(line: &[u8], level: u32, bits: u32, s: u32, at: u32) -> Piece
+    requires { ⌜ (level ≤ 1) × (bits ≤ 5110) × (bits ≤ length (now line) * 8) × (at < bits) ⌝ }
+    ensures { λ r. ⌜ r ≡ shortPiece (carried level bits (now (line .entry))) s at ⌝ }
+{
+    if at + 10 <= bits {
+        if bits_at(line, level, at as usize, 10) == 0b1100010001 {
+            return sync_of(s, at);
+        }
+    }
+    Piece::Bad {
+        number: 10,
+        place: at,
+    }
+}
+
+// What stands at the boundary after n channels and s syncs. The table is that of the octets that two groups mean.
+fn piece_at(
+    table: &[u16; 1024],
+    line: &[u8],
+    level: u32,
+    channels: u32,
+    bits: u32,
+    n: u32,
+    active: u32,
+    s: u32,
+) -> Piece
+    requires { ⌜ Octets (now table) × (level ≤ 1) × (bits ≤ 5110) × (bits ≤ length (now line) * 8) × (boundary n s ≤ bits) ⌝ }
+    ensures { λ r. ⌜ r ≡ pieceAt (carried level bits (now (line .entry))) channels n active s ⌝ }
+{
+    let at = 40 * n + 10 * s;
+    if at == bits {
+        return end_of(channels, n, s, at);
+    }
+    if bits < at + 40 {
+        return short_piece(line, level, bits, s, at);
+    }
+    let v = bits_at(line, level, at as usize, 40);
+    if v / 0x4000_0000 == 0b1100010001 {
+        return sync_of(s, at);
+    }
+    if n == channels {
+        return Piece::Bad {
+            number: 10,
+            place: at,
+        };
+    }
+    let c = madi_code::channel_by(table, v);
+    match c {
+        Channel::Word(w) => slot_of(n, active, w),
+        Channel::Broken(g) => Piece::Bad {
+            number: 11,
+            place: at + 5 * g,
+        },
+    }
+}
+
+// The frame, piece by piece. Its words go to held.
+fn walk(line: &[u8], level: u32, channels: u32, bits: u32, held: &mut [u32]) -> ReadAnswer
+    requires { ⌜ (level ≤ 1) × (bits ≤ 5110) × (bits ≤ length (now line) * 8) × (channels ≤ 64) × (length (now held) ≡ 64) ⌝ }
+    ensures { λ r. ⌜ r ≡ answerOf (readRow (carried level bits (now (line .entry))) channels) ⌝ }
+    ensures { λ r. ⌜ Held channels (readRow (carried level bits (now (line .entry))) channels) (now (held .exit)) ⌝ }
+{
+    let table = madi_code::octets();
+    let mut n: u32 = 0;
+    let mut active: u32 = 0;
+    let mut s: u32 = 0;
+    loop {
+        let p = piece_at(&table, line, level, channels, bits, n, active, s);
+        match p {
+            Piece::End => {
+                return ReadAnswer::Read { active, syncs: s };
+            }
+            Piece::Sync => {
+                s += 1;
+            }
+            Piece::Slot(w) => {
+                held[n as usize] = w - w % 4;
+                active += w / 2 % 2;
+                n += 1;
+            }
+            Piece::Bad { number, place } => {
+                return ReadAnswer::Refused { number, place };
+            }
+        }
+    }
+}
+
+// As many words as dst takes.
+fn copy(src: &[u32], dst: &mut [u32])
+    requires { ⌜ length (now dst) ≤ length (now src) ⌝ }
+    ensures { λ r. ⌜ now (dst .exit) ≡ take (length (now (dst .entry))) (now (src .entry)) ⌝ }
+{
+    let mut i = 0;
+    while i < dst.len() {
+        dst[i] = src[i];
+        i += 1;
+    }
+}
+
+// Whether the numbers handed to the reader are in their ranges.
+fn in_range(channels: u32, level: u32, bits: u32) -> bool
+    ensures { λ r. ⌜ r ≡ inRange channels level bits ⌝ }
+{
+    if madi_code::is_counted(channels) {
+        if level <= 1 {
+            return bits <= 5110;
+        }
+    }
+    false
+}
+
+// Whether the unused bits of the last octet are 0.
+fn spare_zero(bits: u32, line: &[u8]) -> bool
+    requires { ⌜ (bits ≤ 5110) × (length (now line) ≡ (bits + 7) / 8) ⌝ }
+    ensures { λ r. ⌜ r ≡ spareZero bits (now (line .entry)) ⌝ }
+{
+    line::load(line, bits as usize, line.len() * 8 - bits as usize) == 0
+}
+
+// Reads a frame whose numbers and lengths are right.
+fn read_checked(channels: u32, level: u32, bits: u32, line: &[u8], words: &mut [u32]) -> ReadAnswer
+    requires { ⌜ (level ≤ 1) × (bits ≤ 5110) × (bits ≤ length (now line) * 8) × (channels ≤ 64) × (length (now words) ≡ channels) ⌝ }
+    ensures { λ r. ⌜ r ≡ answerOf (readRow (carried level bits (now (line .entry))) channels) ⌝ }
+    ensures { λ r. ⌜ now (words .exit) ≡ wordsOf (readRow (carried level bits (now (line .entry))) channels) (now (words .entry)) ⌝ }
+{
+    let mut held = [0u32; 64];
+    let answer = walk(line, level, channels, bits, &mut held);
+    match answer {
+        ReadAnswer::Read { active, syncs } => {
+            copy(&held, words);
+            ReadAnswer::Read { active, syncs }
+        }
+        ReadAnswer::Refused { number, place } => ReadAnswer::Refused { number, place },
+    }
+}
+
+// Reads a frame.
+pub fn read_frame(
+    channels: u32,
+    level: u32,
+    bits: u32,
+    line: &[u8],
+    words: &mut [u32],
+) -> ReadAnswer
+    ensures { λ r. ⌜ r ≡ answerOf (readFrame channels level bits (now (line .entry)) (length (now (words .entry)))) ⌝ }
+    ensures { λ r. ⌜ now (words .exit) ≡ wordsOf (readFrame channels level bits (now (line .entry)) (length (now (words .entry)))) (now (words .entry)) ⌝ }
+{
+    if in_range(channels, level, bits) {
+        if line.len() == (bits as usize + 7) / 8 {
+            if words.len() == channels as usize {
+                if spare_zero(bits, line) {
+                    return read_checked(channels, level, bits, line, words);
+                }
+                return ReadAnswer::Refused {
+                    number: 2,
+                    place: 0,
+                };
+            }
+        }
+        return ReadAnswer::Refused {
+            number: 1,
+            place: 0,
+        };
+    }
+    ReadAnswer::Refused {
+        number: 2,
+        place: 0,
+    }
+}

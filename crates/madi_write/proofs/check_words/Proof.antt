@@ -1,0 +1,21 @@
+-- `madi_write::check_words` meets its contract: where the sum is nothing, no word breaks a rule. Assumes nothing.
+use mathlib.Core.Path.{_≡_, sym, _∙_}
+use borrow.Author.Needs.{needs}
+use Rattle.madi_write.proofs.Checks.{words-written}
+use Rattle.madi_write.proofs.check_words.Statement.{statement}
+use Rattle.madi_write.proofs.check_words.Tie as tie
+
+faults-requires : tie.Need-faults-requires
+faults-requires c κs = search needs
+
+returns : tie.Need-returns
+returns c = sym (words-written (c .before .before .before .args .words .now) (c .before .faults .ensures (c .if1 .taken)))
+
+find-fault-requires : tie.Need-find-fault-requires
+find-fault-requires c κs = search needs
+
+returns-2 : tie.Need-returns-2
+returns-2 c = search needs
+
+pub check-words-spec : {M : Type 1} → statement M
+check-words-spec = tie.close (tie.spec faults-requires returns find-fault-requires returns-2)

@@ -1,0 +1,41 @@
+-- Clauses of inner functions of the writer. Assumes nothing.
+use Prim.Native.Nat.{ℕ, zero, suc, _+_, _-_, _*_, _/_, _%_, _^_, _≤_, _<_}
+use mathlib.Core.Path.{_≡_}
+use mathlib.Core.Bool.{true}
+use mathlib.Core.List.{List, _++_}
+use lib.Bits.{bitXor}
+use lib.Dec.{eqb, ltb}
+use lib.ListN.{length, getD, take, drop}
+use Rattle.bits.specs.Pick.{pick}
+use Rattle.bits.specs.Row.{big}
+use Rattle.madi_code.specs.Groups.{sync}
+use Rattle.madi_code.specs.Channels.{channelRow}
+use Rattle.madi_code.specs.Frame.{evenBody}
+
+-- the word of channel b as it is sent
+unfoldable pub sentWord : List ℕ → ℕ → ℕ
+sentWord words b = pick (ltb b (length words)) (getD words b 0 + pick (eqb b 0) 3 2) 0
+
+-- k syncs as a number
+unfoldable pub syncsNumber : ℕ → ℕ
+syncsNumber zero = 0
+syncsNumber (suc k) = syncsNumber k * 2 ^ 10 + sync
+
+-- the 40 bits of a frame from bit 40 b on as a number: a channel, or four syncs
+unfoldable pub blockOf : ℕ → List ℕ → ℕ → ℕ
+unfolding syncsNumber
+blockOf channels words b = pick (ltb b channels) (big (channelRow (sentWord words b))) (syncsNumber 4)
+
+-- y is the number whose digits, each against the one before, are those of x
+abbrev pub Levels : ℕ → ℕ → Type 0
+Levels x r = (y : ℕ) → y < 2 ^ 64 → bitXor y (y / 2) ≡ x → r ≡ y
+
+-- after a store of n octets of y from j on, a list that was new up to j, and old from there, is new up to j + n
+abbrev pub Stored : ℕ → ℕ → ℕ → List ℕ → List ℕ → Type 0
+Stored j y n at-entry at-exit =
+    (new old : List ℕ) → j + n ≤ length new → j + n ≤ length old → ((i : ℕ) → i < n → getD new (j + i) 0 ≡ y / 2 ^ (32 - 8 * i) % 256)
+    → at-entry ≡ take j new ++ drop j old → at-exit ≡ take (j + n) new ++ drop (j + n) old
+
+-- no word breaks a rule
+abbrev pub Sound : List ℕ → Type 0
+Sound words = (i : ℕ) → i < length words → (evenBody (getD words i 0) ≡ true) × (getD words i 0 % 4 ≡ 0)

@@ -1,0 +1,48 @@
+-- `status::codes_by` meets its contract, field by field.
+-- Assumes nothing.
+use borrow.Author.Needs.{needs}
+use Rattle.status.specs.Numbers.{codesBy}
+use Rattle.status.proofs.codes_by.Statement.{statement}
+use Rattle.status.proofs.codes_by.Tie as tie
+
+emphasis-code-requires : tie.Need-emphasis-code-requires
+emphasis-code-requires c κs = search needs
+
+lock-code-requires : tie.Need-lock-code-requires
+lock-code-requires c κs = search needs
+
+rate-code-requires : tie.Need-rate-code-requires
+rate-code-requires c κs = search needs
+
+mode-code-requires : tie.Need-mode-code-requires
+mode-code-requires c κs = search needs
+
+user-code-requires : tie.Need-user-code-requires
+user-code-requires c κs = search needs
+
+auxiliary-code-requires : tie.Need-auxiliary-code-requires
+auxiliary-code-requires c κs = search needs
+
+length-code-requires : tie.Need-length-code-requires
+length-code-requires c κs = search needs
+
+alignment-code-requires : tie.Need-alignment-code-requires
+alignment-code-requires c κs = search needs
+
+returns : tie.Need-returns
+unfolding codesBy
+returns c = cc
+
+pub codes-by-spec : {M : Type 1} → statement M
+codes-by-spec =
+    tie.close
+    (tie.spec
+    emphasis-code-requires
+    lock-code-requires
+    rate-code-requires
+    mode-code-requires
+    user-code-requires
+    auxiliary-code-requires
+    length-code-requires
+    alignment-code-requires
+    returns)

@@ -1,0 +1,68 @@
+-- `trial_block::draw_samples` is safe and ends. Assumes nothing.
+use mathlib.Core.Path.{_≡_}
+use Prim.Native.Nat.{_-_, _≤_}
+use borrow.Author.Needs.{needs}
+use lib.ListN.{length}
+use Rattle.trial_block.proofs.draw_samples.Statement.{statement}
+use Rattle.trial_block.proofs.draw_samples.Tie as tie
+
+abbrev Inv-loop : tie.InvT-loop
+Inv-loop samples₀ seed x₀ i₀ samples x i = (i ≤ length samples₀) × (length samples ≡ length samples₀)
+
+abbrev μ-loop : tie.MeasureT-loop
+μ-loop samples₀ seed x₀ i₀ samples x i = length samples₀ - i
+
+loop-holds : tie.Need-loop-holds Inv-loop μ-loop
+loop-holds c = search needs
+
+next-requires : tie.Need-next-requires Inv-loop μ-loop
+next-requires c κs = search needs
+
+next-requires-2 : tie.Need-next-requires-2 Inv-loop μ-loop
+next-requires-2 c κs = search needs
+
+wide-requires : tie.Need-wide-requires Inv-loop μ-loop
+wide-requires c κs = search needs
+
+sample-of-requires : tie.Need-sample-of-requires Inv-loop μ-loop
+sample-of-requires c κs = search needs
+
+mul-s : tie.Need-mul-s Inv-loop μ-loop
+mul-s c = search needs
+
+slice-set-from-s : tie.Need-slice-set-from-s Inv-loop μ-loop
+slice-set-from-s c = search needs
+
+add-i : tie.Need-add-i Inv-loop μ-loop
+add-i c = search needs
+
+loop-less : tie.Need-loop-less Inv-loop μ-loop
+loop-less c = search needs
+
+loop-again : tie.Need-loop-again Inv-loop μ-loop
+loop-again c = search needs
+
+same-length : tie.Need-same-length Inv-loop μ-loop
+same-length c = search needs
+
+returns : tie.Need-returns Inv-loop μ-loop
+returns c = search needs
+
+pub draw-samples-spec : {M : Type 1} → statement M
+draw-samples-spec =
+    tie.close
+    (tie.spec
+    Inv-loop
+    μ-loop
+    loop-holds
+    next-requires
+    next-requires-2
+    wide-requires
+    sample-of-requires
+    mul-s
+    slice-set-from-s
+    add-i
+    loop-less
+    loop-again
+    same-length
+    returns)

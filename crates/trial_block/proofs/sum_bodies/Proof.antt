@@ -1,0 +1,51 @@
+-- `trial_block::sum_bodies` is safe and ends. Assumes nothing.
+use Prim.Native.Nat.{_-_, _≤_}
+use borrow.Author.Needs.{needs}
+use lib.ListN.{length}
+use Rattle.trial_block.proofs.sum_bodies.Statement.{statement}
+use Rattle.trial_block.proofs.sum_bodies.Tie as tie
+
+abbrev Inv-loop : tie.InvT-loop
+Inv-loop bodies h₀ i₀ h i = i ≤ length bodies
+
+abbrev μ-loop : tie.MeasureT-loop
+μ-loop bodies h₀ i₀ h i = length bodies - i
+
+loop-holds : tie.Need-loop-holds Inv-loop μ-loop
+loop-holds c = search needs
+
+mul-with-word : tie.Need-mul-with-word Inv-loop μ-loop
+mul-with-word c = search needs
+
+shared-slice-read-with-word : tie.Need-shared-slice-read-with-word Inv-loop μ-loop
+shared-slice-read-with-word c = search needs
+
+with-word-requires : tie.Need-with-word-requires Inv-loop μ-loop
+with-word-requires c κs = search needs
+
+add-i : tie.Need-add-i Inv-loop μ-loop
+add-i c = search needs
+
+loop-less : tie.Need-loop-less Inv-loop μ-loop
+loop-less c = search needs
+
+loop-again : tie.Need-loop-again Inv-loop μ-loop
+loop-again c = search needs
+
+returns : tie.Need-returns Inv-loop μ-loop
+returns c = search needs
+
+pub sum-bodies-spec : {M : Type 1} → statement M
+sum-bodies-spec =
+    tie.close
+    (tie.spec
+    Inv-loop
+    μ-loop
+    loop-holds
+    mul-with-word
+    shared-slice-read-with-word
+    with-word-requires
+    add-i
+    loop-less
+    loop-again
+    returns)

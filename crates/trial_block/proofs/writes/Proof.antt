@@ -1,0 +1,34 @@
+-- `trial_block::writes` is safe and ends. Assumes nothing.
+use Prim.Native.Nat.{_-_, _≤_}
+use borrow.Author.Needs.{needs}
+use Rattle.trial_block.proofs.writes.Statement.{statement}
+use Rattle.trial_block.proofs.writes.Tie as tie
+
+abbrev Inv-loop : tie.InvT-loop
+Inv-loop seed x₀ i₀ x i = i ≤ 800
+
+abbrev μ-loop : tie.MeasureT-loop
+μ-loop seed x₀ i₀ x i = 800 - i
+
+loop-holds : tie.Need-loop-holds Inv-loop μ-loop
+loop-holds c = search needs
+
+write-case-requires : tie.Need-write-case-requires Inv-loop μ-loop
+write-case-requires c κs = search needs
+
+add-i : tie.Need-add-i Inv-loop μ-loop
+add-i c = search needs
+
+loop-less : tie.Need-loop-less Inv-loop μ-loop
+loop-less c = search needs
+
+loop-again : tie.Need-loop-again Inv-loop μ-loop
+loop-again c = search needs
+
+returns : tie.Need-returns Inv-loop μ-loop
+returns c = search needs
+
+pub writes-spec : {M : Type 1} → statement M
+writes-spec =
+    tie.close
+    (tie.spec Inv-loop μ-loop loop-holds write-case-requires add-i loop-less loop-again returns)

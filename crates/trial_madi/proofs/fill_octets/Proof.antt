@@ -1,0 +1,49 @@
+-- `trial_madi::fill_octets` is safe and ends. Assumes nothing.
+use Prim.Native.Nat.{_-_, _*_, _≤_, _<_}
+use mathlib.Core.Path.{_≡_, refl}
+use native.Mathlib.Omega.{arith}
+use borrow.Author.Needs.{needs}
+use lib.ListN.{length}
+use Rattle.trial_madi.proofs.fill_octets.Statement.{statement}
+use Rattle.trial_madi.proofs.fill_octets.Tie as tie
+
+abbrev Inv-loop : tie.InvT-loop
+Inv-loop x line₀ i₀ line i = (i ≤ length line₀) × (length line ≡ length line₀)
+
+abbrev μ-loop : tie.MeasureT-loop
+μ-loop x line₀ i₀ line i = length line₀ - i
+
+loop-holds : tie.Need-loop-holds Inv-loop μ-loop
+loop-holds c = search needs
+
+slice-write-line : tie.Need-slice-write-line Inv-loop μ-loop
+slice-write-line c = search needs
+
+add-i : tie.Need-add-i Inv-loop μ-loop
+add-i c = search needs
+
+loop-less : tie.Need-loop-less Inv-loop μ-loop
+loop-less c = search needs
+
+loop-again : tie.Need-loop-again Inv-loop μ-loop
+loop-again c = search needs
+
+same-length : tie.Need-same-length Inv-loop μ-loop
+same-length c = search needs
+
+returns : tie.Need-returns Inv-loop μ-loop
+returns c = search needs
+
+pub fill-octets-spec : {M : Type 1} → statement M
+fill-octets-spec =
+    tie.close
+    (tie.spec
+    Inv-loop
+    μ-loop
+    loop-holds
+    slice-write-line
+    add-i
+    loop-less
+    loop-again
+    same-length
+    returns)

@@ -1,0 +1,53 @@
+-- `trial_madi::sum_octets` is safe and ends. Assumes nothing.
+use Prim.Native.Nat.{_-_, _*_, _≤_, _<_}
+use mathlib.Core.Path.{_≡_, refl}
+use native.Mathlib.Omega.{arith}
+use borrow.Author.Needs.{needs}
+use lib.ListN.{length}
+use Rattle.trial_madi.proofs.sum_octets.Statement.{statement}
+use Rattle.trial_madi.proofs.sum_octets.Tie as tie
+
+abbrev Inv-loop : tie.InvT-loop
+Inv-loop line h₀ i₀ h i = i ≤ length line
+
+abbrev μ-loop : tie.MeasureT-loop
+μ-loop line h₀ i₀ h i = length line - i
+
+loop-holds : tie.Need-loop-holds Inv-loop μ-loop
+loop-holds c = search needs
+
+shared-slice-read-wide8 : tie.Need-shared-slice-read-wide8 Inv-loop μ-loop
+shared-slice-read-wide8 c = search needs
+
+wide8-requires : tie.Need-wide8-requires Inv-loop μ-loop
+wide8-requires c κs = search needs
+
+more-requires : tie.Need-more-requires Inv-loop μ-loop
+more-requires c κs = search needs
+
+add-i : tie.Need-add-i Inv-loop μ-loop
+add-i c = search needs
+
+loop-less : tie.Need-loop-less Inv-loop μ-loop
+loop-less c = search needs
+
+loop-again : tie.Need-loop-again Inv-loop μ-loop
+loop-again c = search needs
+
+returns : tie.Need-returns Inv-loop μ-loop
+returns c = search needs
+
+pub sum-octets-spec : {M : Type 1} → statement M
+sum-octets-spec =
+    tie.close
+    (tie.spec
+    Inv-loop
+    μ-loop
+    loop-holds
+    shared-slice-read-wide8
+    wide8-requires
+    more-requires
+    add-i
+    loop-less
+    loop-again
+    returns)

@@ -1,0 +1,177 @@
+/* Comparing the AES3 writer, reader and the search for a block start. */
+#include "compare.h"
+#include "spoil.h"
+#include <string.h>
+
+static int32_t samples[400];
+static uint8_t side[160], line[3100];
+
+static void good_block(void)
+{
+    for (int k = 0; k < 400; k++)
+        samples[k] = once_in(50) ? (once_in(2) ? 8388607 : -8388608) : (int32_t)below(16777216) - 8388608;
+    random_octets(side, sizeof side);
+    for (int channel = 0; channel < 2; channel++) {
+        random_status(side + 72 * channel + 48);
+        if (second_bit(side[72 * channel + 48], 1) == 1)
+            memset(side + 72 * channel, 0xFF, 24);
+    }
+}
+
+/* One thing that the writer refuses, or nothing. */
+static void spoil_block(void)
+{
+    static const int32_t outside[] = {8388608, -8388609, INT32_MAX, INT32_MIN, 16777215};
+    uint8_t *channel = side + 72 * below(2);
+    switch (below(8)) {
+    case 0:
+        samples[below(384)] = outside[below(5)];
+        break;
+    case 1: /* consumer use, sealed or not */
+        channel[48] &= 0xFE;
+        if (once_in(2))
+            second_status_seal(channel + 48, 24);
+        break;
+    case 2:
+        channel[48 + below(24)] ^= (uint8_t)second_weight((int)below(8));
+        break;
+    case 3: /* other purposes with one V of 0 */
+        memset(channel, 0xFF, 24);
+        if (once_in(2))
+            channel[below(24)] ^= (uint8_t)second_weight((int)below(8));
+        else
+            channel[once_in(2) ? 0 : 23] ^= (uint8_t)(once_in(2) ? 0x01 : 0x80);
+        channel[48] |= 2;
+        second_status_seal(channel + 48, 24);
+        break;
+    default:
+        break;
+    }
+}
+
+static void aes3_write(void)
+{
+    good_block();
+    for (uint32_t k = below(3); k > 0; k--)
+        spoil_block();
+    size_t n = any_length(384), s = any_length(144), m = any_length(3072);
+    uint32_t level = any_number(1);
+    begin("aes3_write");
+    lent a_samples = lend_in(samples, n, 4), a_side = lend_in(side, s, 1), a_line = lend_out(m, 1);
+    lampcoil_verdict a = lampcoil_aes3_write(a_samples.library, n, a_side.library, s, level, a_line.library, m);
+    second_verdict b = second_aes3_write(a_samples.second, n, a_side.second, s, level, a_line.second, m);
+    END(a, b);
+}
+
+/* A line whose status may be anything: written with good statuses, then C bits changed in pairs, so that parity holds. */
+static void good_line(void)
+{
+    good_block();
+    second_aes3_write(samples, 384, side, 144, below(2), line, 3072);
+}
+
+static void damage_line(void)
+{
+    uint32_t subframe = below(384), one = 4 + below(27), two;
+    switch (below(7)) {
+    case 0: /* one symbol */
+        spoil_flip(line, below(24576));
+        break;
+    case 1: /* a preamble symbol */
+        spoil_flip(line, 64 * subframe + below(8));
+        break;
+    case 2: /* odd parity */
+        spoil_slot(line, subframe, one, 24576);
+        break;
+    case 3: /* two bits of one subframe: parity holds, and only the CRCC may tell */
+        two = one + 1 + below(31 - one);
+        spoil_slot(line, subframe, one, 64 * subframe + 2 * two + 1);
+        break;
+    case 4: /* the other polarity from a subframe on */
+        for (uint32_t k = 64 * subframe; k < 24576; k++)
+            spoil_flip(line, k);
+        break;
+    case 5: /* C and P of one subframe */
+        spoil_slot(line, subframe, 30, 64 * subframe + 63);
+        break;
+    default: /* a slot that does not begin with a change: both its symbols and all after them turn over */
+        one = once_in(4) ? 31 : one;
+        for (uint32_t k = 64 * subframe + 2 * one; k < 24576; k++)
+            spoil_flip(line, k);
+        break;
+    }
+}
+
+static void aes3_read(void)
+{
+    random_octets(line, sizeof line);
+    if (!once_in(40))
+        good_line();
+    for (uint32_t k = below(3); k > 0; k--)
+        damage_line();
+    if (once_in(4))
+        for (int k = 0; k < 3072; k++)
+            line[k] = (uint8_t)(255 - line[k]);
+    size_t n = any_length(384), s = any_length(144), m = any_length(3072);
+    begin("aes3_read");
+    lent a_line = lend_in(line, m, 1), a_samples = lend_out(n, 4), a_side = lend_out(s, 1);
+    lampcoil_aes3_read_answer a = lampcoil_aes3_read(a_line.library, m, a_samples.library, n, a_side.library, s);
+    second_aes3_read_answer b = second_aes3_read(a_line.second, m, a_samples.second, n, a_side.second, s);
+    END(a, b);
+}
+
+/* Puts a preamble with its level before it at a symbol of a stretch; pattern of nine, the first the symbol before. */
+static void plant(uint8_t *octets, size_t n, uint32_t at, uint32_t pattern, int inverted)
+{
+    for (uint32_t k = 0; k < 9; k++) {
+        uint32_t bit = second_bit(pattern, 8 - (int)k) ^ (uint32_t)inverted;
+        if (at + k < 8 * n && (uint32_t)second_symbol(octets, at + k) != bit)
+            spoil_flip(octets, at + k);
+    }
+}
+
+static void aes3_find(size_t n)
+{
+    static uint8_t stretch[8400];
+    switch (below(3)) {
+    case 0:
+        random_octets(stretch, sizeof stretch);
+        break;
+    case 1:
+        memset(stretch, once_in(2) ? 0xCC : 0, sizeof stretch);
+        break;
+    default: /* all candidates go far: preambles without their partner */
+        memset(stretch, 0xE8, sizeof stretch);
+        break;
+    }
+    for (uint32_t k = n < 10 ? 0 : below(3); k > 0; k--) {
+        uint32_t at = below(8 * (uint32_t)n - 72);
+        if (once_in(4)) /* the end cuts the second preamble */
+            at = 8 * (uint32_t)n - 72 + below(8);
+        plant(stretch, n, at, 0x0E8, once_in(2));
+        plant(stretch, n, at + 64, once_in(8) ? 0x0E2 : 0x0E4, once_in(2));
+    }
+    begin("aes3_find");
+    lent in = lend_in(stretch, n, 1);
+    lampcoil_aes3_start a = lampcoil_aes3_find(in.library, n);
+    second_aes3_start b = second_aes3_find(in.second, n);
+    END(a, b);
+}
+
+void compare_aes3(uint32_t cases)
+{
+    static const int of_write[] = {0, 1, 2, 3, 4, 5, 6, -1}, of_read[] = {0, 1, 7, 8, 9, -1}, of_find[] = {0, 1, 17, -1};
+    for (uint32_t k = 0; k < cases; k += 16) {
+        aes3_write();
+        aes3_read();
+    }
+    for (uint32_t k = 0; k < cases; k += 4)
+        aes3_find(once_in(300) ? 8190 + below(6) : once_in(50) ? 3072 : once_in(4) ? 9 + below(4) : below(120));
+    for (size_t n = 0; n < 12; n++)
+        aes3_find(n);
+    for (size_t n = 8189; n < 8196; n++)
+        aes3_find(n);
+    must_have_seen("aes3_write", of_write);
+    must_have_seen("aes3_read", of_read);
+    must_have_seen("aes3_find", of_find);
+}

@@ -1,0 +1,113 @@
+/* Comparing the HD packet's writer, reader and repair. */
+#include "compare.h"
+#include "spoil.h"
+
+static void hd_write(void)
+{
+    uint32_t group = once_in(12) ? any_number(5) : 1 + below(4), bodies[40];
+    uint32_t dbn = any_number(255), phase = any_number(4095), ck12 = any_number(1), z1 = any_number(1), z2 = any_number(1);
+    size_t n = any_length(4), m = any_length(31);
+    for (int k = 0; k < 40; k++)
+        bodies[k] = even_body();
+    while (once_in(6))
+        bodies[below(4)] ^= second_weight((int)below(32));
+    if (once_in(8))
+        bodies[below(4)] |= below(16);
+    begin("hd_write");
+    lent in = lend_in(bodies, n, sizeof bodies[0]), out = lend_out(m, 2);
+    lampcoil_verdict a = lampcoil_hd_write(group, dbn, phase, ck12, z1, z2, in.library, n, out.library, m);
+    second_verdict b = second_hd_write(group, dbn, phase, ck12, z1, z2, in.second, n, out.second, m);
+    END(a, b);
+}
+
+static void good_packet(uint16_t words[64])
+{
+    uint32_t bodies[4];
+    for (int k = 0; k < 64; k++)
+        words[k] = (uint16_t)draw();
+    for (int k = 0; k < 4; k++)
+        bodies[k] = even_body();
+    second_hd_write(1 + below(4), below(256), below(4096), below(2), below(2), below(2), bodies, 4, words, 31);
+}
+
+/* Damages a good packet so that each of the reader's and of repair's refusals comes up. */
+static void damage(uint16_t *words)
+{
+    switch (below(10)) {
+    case 0: /* a word above 1,023 */
+        words[below(31)] |= (uint16_t)(1024u << below(6));
+        break;
+    case 1: /* one bit anywhere */
+        words[below(31)] ^= (uint16_t)(1u << below(10));
+        break;
+    case 2: /* a header word */
+        words[below(6)] ^= (uint16_t)(1u << below(10));
+        spoil_close_lanes(words);
+        break;
+    case 3: /* the checksum */
+        words[30] = (uint16_t)below(1024);
+        break;
+    case 4: /* lanes, all else being right */
+        words[6 + below(24)] ^= (uint16_t)(1 + below(255));
+        spoil_close_words(words);
+        break;
+    case 5: /* any data bit, all else being right: a required zero, or parity */
+        words[6 + below(18)] ^= (uint16_t)(1u << below(8));
+        spoil_close_lanes(words);
+        break;
+    case 6: /* one place in some lanes, each anywhere */
+        for (int lane = 0; lane < 8; lane++)
+            if (once_in(2))
+                words[below(30)] ^= (uint16_t)(1u << lane);
+        break;
+    case 7: /* two places in one lane */
+        words[below(15)] ^= 4;
+        words[15 + below(15)] ^= 4;
+        break;
+    case 8: /* another packet altogether */
+        for (int w = 0; w < 31; w++)
+            words[w] = (uint16_t)below(once_in(2) ? 1024 : 1030);
+        break;
+    default: /* another first word, with lanes that are right */
+        words[below(3)] ^= (uint16_t)(1u << below(8));
+        spoil_close_lanes(words);
+        while (once_in(2))
+            words[below(30)] ^= (uint16_t)(1u << below(8));
+        break;
+    }
+}
+
+static void hd_read_and_repair(void)
+{
+    uint16_t words[64];
+    good_packet(words);
+    for (uint32_t k = below(4); k > 1; k--)
+        damage(words);
+    size_t n = any_length(31), m = any_length(4);
+    begin("hd_read");
+    lent in = lend_in(words, n, 2), out = lend_out(m, 4);
+    lampcoil_hd_read_answer a = lampcoil_hd_read(in.library, n, out.library, m);
+    second_hd_read_answer b = second_hd_read(in.second, n, out.second, m);
+    END(a, b);
+
+    m = any_length(31);
+    begin("hd_repair");
+    in = lend_in(words, n, 2);
+    out = lend_out(m, 2);
+    lampcoil_hd_repair_answer c = lampcoil_hd_repair(in.library, n, out.library, m);
+    second_hd_repair_answer d = second_hd_repair(in.second, n, out.second, m);
+    END(c, d);
+}
+
+void compare_hd(uint32_t cases)
+{
+    static const int of_write[] = {0, 1, 2, 9, 12, -1}, of_read[] = {0, 1, 9, 12, 13, 14, 15, 16, -1};
+    static const int of_repair[] = {0, 1, 13, 14, 15, -1};
+    for (uint32_t k = 0; k < cases; k += 2) {
+        hd_write();
+        hd_read_and_repair();
+    }
+    must_have_seen("hd_write", of_write);
+    must_have_seen("hd_read", of_read);
+    must_have_seen("hd_repair", of_repair);
+}

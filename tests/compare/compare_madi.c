@@ -1,0 +1,123 @@
+/* Comparing the MADI writer and reader. */
+#include "compare.h"
+#include "spoil.h"
+
+static uint32_t any_channels(void)
+{
+    static const uint32_t others[] = {0, 55, 57, 63, 65, 120};
+    if (once_in(24))
+        return once_in(2) ? others[below(6)] : draw();
+    return once_in(2) ? 56 : 64;
+}
+
+static void madi_write(void)
+{
+    uint32_t words[80], channels = any_channels(), syncs = once_in(8) ? any_number(255) : 1 + below(20), level = any_number(1);
+    size_t n = 1 + below(64), bits, m;
+    if (once_in(4))
+        n = channels < 70 ? channels : 64;
+    if (once_in(10))
+        n = below(70);
+    if (once_in(8))
+        syncs = 254 + below(3);
+    bits = 40 * (size_t)(channels < 70 ? channels : 64) + 10 * (size_t)(syncs < 300 ? syncs : 1);
+    m = (bits + 7) / 8 + (once_in(2) ? 0 : below(40));
+    if (once_in(12))
+        m = below(700);
+    for (int k = 0; k < 80; k++)
+        words[k] = even_body() | (draw() & 12u);
+    if (once_in(6) && n > 0)
+        words[below((uint32_t)n)] ^= second_weight((int)below(32));
+    if (once_in(6) && n > 0)
+        words[below((uint32_t)n)] |= 1 + below(3);
+    begin("madi_write");
+    lent in = lend_in(words, n, 4), out = lend_out(m, 1);
+    lampcoil_verdict a = lampcoil_madi_write(channels, in.library, n, syncs, level, out.library, m);
+    second_verdict b = second_madi_write(channels, in.second, n, syncs, level, out.second, m);
+    END(a, b);
+}
+
+/* A frame with syncs at any boundaries. */
+static void good_frame(spoil_row *r, uint32_t channels, uint32_t active)
+{
+    int spread = once_in(2);
+    r->bits = 0;
+    for (uint32_t c = 0; c < channels; c++) {
+        if (spread && once_in(16))
+            spoil_add_syncs(r, below(4));
+        uint32_t word = c < active ? even_body() | (draw() & 12u) | 2u | (c == 0) : 0;
+        if (once_in(2000)) /* a wrong bit, first without and then with odd parity */
+            word = word ^ second_weight((int)below(32));
+        if (once_in(2000))
+            word = word ^ second_weight((int)below(4));
+        spoil_add_channel(r, word);
+    }
+    spoil_add_syncs(r, once_in(16) ? 240 + below(18) : once_in(20) ? 0 : 1 + below(9));
+}
+
+static void damage(spoil_row *r)
+{
+    uint32_t at = r->bits == 0 ? 0 : below(r->bits);
+    switch (below(6)) {
+    case 0: /* one bit */
+        r->bit[at] ^= 1;
+        break;
+    case 1: /* cut */
+        r->bits = at;
+        break;
+    case 2: /* cut at a boundary of ten */
+        r->bits = at / 10 * 10;
+        break;
+    case 3: /* something more */
+        spoil_add_channel(r, once_in(2) ? 0 : even_body() | 2u);
+        break;
+    case 4:
+        spoil_add_syncs(r, 1 + below(3));
+        spoil_add_bits(r, draw(), (int)below(32));
+        break;
+    default: /* a group elsewhere */
+        for (uint32_t k = 0; k < 5; k++)
+            r->bit[at / 5 * 5 + k] = (uint8_t)below(2);
+        break;
+    }
+}
+
+static void madi_read(void)
+{
+    static spoil_row r;
+    static uint8_t line[SPOIL_MOST / 8 + 16];
+    uint32_t channels = once_in(2) ? 56 : 64, level = below(2);
+    good_frame(&r, channels, once_in(3) ? channels : below(channels + 1));
+    if (once_in(3))
+        damage(&r);
+    size_t n = spoil_pack(&r, level & 1, line), m = channels;
+    uint32_t bits = r.bits;
+    if (once_in(24) && bits % 8 != 0)
+        line[n - 1] |= (uint8_t)second_weight((int)below(8 - bits % 8));
+    if (once_in(16))
+        channels = any_channels();
+    if (once_in(24))
+        level = any_number(1);
+    if (once_in(24))
+        bits = once_in(2) ? bits + 8 : once_in(2) ? 5110 + below(3) : draw();
+    if (once_in(24))
+        n = below((uint32_t)n + 2);
+    m = once_in(24) ? below(66) : channels < 70 ? channels : m;
+    begin("madi_read");
+    lent in = lend_in(line, n, 1), out = lend_out(m, 4);
+    lampcoil_madi_read_answer a = lampcoil_madi_read(channels, level, bits, in.library, n, out.library, m);
+    second_madi_read_answer b = second_madi_read(channels, level, bits, in.second, n, out.second, m);
+    END(a, b);
+}
+
+void compare_madi(uint32_t cases)
+{
+    static const int of_write[] = {0, 1, 2, 9, 12, -1}, of_read[] = {0, 1, 2, 9, 10, 11, 12, -1};
+    for (uint32_t k = 0; k < cases; k += 8) {
+        madi_write();
+        madi_read();
+        madi_read();
+    }
+    must_have_seen("madi_write", of_write);
+    must_have_seen("madi_read", of_read);
+}

@@ -1,0 +1,239 @@
+/* What is written down with its answer: the eleven examples of the scope document, the published vectors, and its list "By test".
+   Run over the library, and over the second program under the library's names. */
+#include "lampcoil.h"
+#include <stdio.h>
+#include <string.h>
+
+static int passed, failed;
+
+static void expect(int holds, const char *what)
+{
+    if (holds)
+        passed = passed + 1;
+    else {
+        failed = failed + 1;
+        printf("FAILED: %s\n", what);
+    }
+}
+
+static uint32_t weight(int place)
+{
+    return (uint32_t)1 << place;
+}
+
+static int bit_of(uint32_t number, int place)
+{
+    return (int)(number >> place & 1u);
+}
+
+static int symbol_of(const uint8_t *line, int place)
+{
+    return bit_of(line[place / 8], 7 - place % 8);
+}
+
+/* A block with silent samples and both statuses professional, sealed. */
+static void quiet_block(int32_t samples[384], uint8_t side[144])
+{
+    memset(samples, 0, 384 * sizeof samples[0]);
+    memset(side, 0, 144);
+    side[48] = 1;
+    side[120] = 1;
+    lampcoil_status_seal(side + 48, 24);
+    lampcoil_status_seal(side + 120, 24);
+}
+
+static void test_bodies(void)
+{
+    expect(lampcoil_body_write(1, 0, 0, 0).body == 0x80000010u, "example 1");
+    expect(lampcoil_body_write(-1, 0, 0, 0).body == 0x0FFFFFF0u, "example 2");
+    expect(lampcoil_body_write(-8388608, 0, 0, 0).body == 0x88000000u, "example 3");
+    expect(lampcoil_body_write(0, 1, 0, 0).body == 0x90000000u, "example 4");
+    expect(lampcoil_body_write(8388607, 0, 0, 0).number == 0, "sample 8,388,607");
+    expect(lampcoil_body_write(8388608, 0, 0, 0).number == 3, "sample 8,388,608");
+    expect(lampcoil_body_write(8388608, 0, 2, 0).number == 2, "u of 2 goes before the sample");
+    expect(lampcoil_body_read(0x80000010u).sample == 1, "body of +1 read");
+    expect(lampcoil_body_read(0x0FFFFFF0u).sample == -1, "body of -1 read");
+    expect(lampcoil_body_read(0x00000011u).number == 12, "a low bit and odd ones is 12");
+    expect(lampcoil_body_read(0x00000010u).number == 9, "odd ones is 9");
+}
+
+/* How many silent X subframes with no status bit stand in a silent block after a level, and whether all are as given. */
+static int silent_subframes(uint32_t level, const uint8_t due[8], int *same)
+{
+    int32_t samples[384];
+    uint8_t side[144], line[3072];
+    int found = 0;
+    quiet_block(samples, side);
+    lampcoil_aes3_write(samples, 384, side, 144, level, line, 3072);
+    for (int n = 2; n < 384; n += 2)
+        if (bit_of(side[48 + n / 16], n / 2 % 8) == 0 && line[8 * n - 1] % 2u == level) {
+            found = found + 1;
+            if (memcmp(line + 8 * n, due, 8) != 0)
+                *same = 0;
+        }
+    return found;
+}
+
+static void test_silence(void)
+{
+    static const uint8_t x0[8] = {0xE2, 0xCC, 0xCC, 0xCC, 0xCC, 0xCC, 0xCC, 0xCC};
+    static const uint8_t x1[8] = {0x1D, 0x33, 0x33, 0x33, 0x33, 0x33, 0x33, 0x33};
+    int same = 1;
+    expect(silent_subframes(0, x0, &same) > 100 && same, "example 5");
+    expect(silent_subframes(1, x1, &same) > 100 && same, "example 6");
+}
+
+/* Example 7 has no status bit, which the writer asks of a block's first subframe: the reader takes it there, with a wrong CRCC. */
+static void test_under_z(void)
+{
+    static const uint8_t z0[8] = {0xE8, 0xB3, 0x33, 0x33, 0x33, 0x33, 0x33, 0x32};
+    int32_t samples[384], back[384];
+    uint8_t side[144], back_side[144], line[3072];
+    quiet_block(samples, side);
+    samples[0] = 1;
+    lampcoil_aes3_write(samples, 384, side, 144, 0, line, 3072);
+    expect(memcmp(line, z0, 6) == 0, "example 7, first six octets");
+    memcpy(line, z0, 8);
+    lampcoil_aes3_read_answer r = lampcoil_aes3_read(line, 3072, back, 384, back_side, 144);
+    expect(r.number == 0 && back[0] == 1 && back_side[48] % 2 == 0 && r.crcc_a == 0 && r.crcc_b == 1, "example 7 read");
+    for (int k = 0; k < 3072; k++)
+        line[k] = (uint8_t)~line[k];
+    r = lampcoil_aes3_read(line, 3072, back, 384, back_side, 144);
+    expect(r.number == 0 && back[0] == 1 && r.crcc_a == 0 && r.crcc_b == 1, "the same, inverted");
+    expect(lampcoil_aes3_read(line, 3071, back, 384, back_side, 144).number == 1, "a 3,071-octet block");
+    samples[383] = 8388607;
+    expect(lampcoil_aes3_write(samples, 384, side, 144, 0, line, 3072).number == 0, "sample 8,388,607 in a block");
+    samples[383] = 8388608;
+    lampcoil_verdict v = lampcoil_aes3_write(samples, 384, side, 144, 0, line, 3072);
+    expect(v.number == 3 && v.place == 383, "sample 8,388,608 in a block");
+}
+
+static void test_status(void)
+{
+    uint8_t one[24] = {0x3D, 0x02, 0, 0, 0x02}, two[24] = {0x01};
+    lampcoil_status_seal(one, 24);
+    lampcoil_status_seal(two, 24);
+    expect(one[23] == 0x9B, "example 8");
+    expect(two[23] == 0x32, "example 9");
+    uint32_t stages = lampcoil_crcc_start().stages, octet = 0;
+    for (const char *t = "123456789"; *t != '\0'; t++)
+        for (int k = 0; k < 8; k++)
+            stages = lampcoil_crcc_feed(stages, (uint32_t)bit_of((uint32_t)*t, k)).stages;
+    for (int k = 0; k < 8; k++)
+        octet += weight(k) * (uint32_t)bit_of(stages, 7 - k);
+    expect(octet == 0x97, "check value of CRC-8/AES");
+    expect(lampcoil_crcc_feed(256, 0).number == 2 && lampcoil_crcc_feed(0, 2).number == 2, "stages and bit out of range");
+    lampcoil_status_meaning m = lampcoil_status_read(one, 24);
+    expect(m.use == 1 && m.audio == 0 && m.emphasis == 3 && m.lock == 1 && m.rate == 0 && m.mode == 4, "meaning of example 8");
+    uint8_t three[24] = {0x8B, 0x98, 0xEC};
+    m = lampcoil_status_read(three, 24);
+    expect(m.audio == 1 && m.emphasis == LAMPCOIL_RESERVED && m.emphasis_bits == 2, "reserved emphasis");
+    expect(m.rate == 1 && m.mode == 1, "48 kHz, two channels");
+    expect(m.user == LAMPCOIL_RESERVED && m.user_bits == 9, "reserved user bits");
+    expect(m.auxiliary == 1 && m.length == 24, "24-bit words");
+    expect(m.alignment == LAMPCOIL_RESERVED && m.alignment_bits == 3, "reserved alignment");
+    three[2] = 0x2E;
+    m = lampcoil_status_read(three, 24);
+    expect(m.auxiliary == 3 && m.length == LAMPCOIL_RESERVED && m.length_bits == 5, "no length under user-defined auxiliary use");
+    three[2] = 0x07;
+    m = lampcoil_status_read(three, 24);
+    expect(m.auxiliary == LAMPCOIL_RESERVED && m.auxiliary_bits == 7, "reserved auxiliary use");
+    expect(m.length == LAMPCOIL_RESERVED && m.length_bits == 0, "no length under it");
+    three[0] = 0xFE;
+    m = lampcoil_status_read(three, 24);
+    expect(m.number == 0 && m.use == 0 && m.mode == 0 && m.length == 0, "consumer use holds nothing");
+    expect(lampcoil_status_read(three, 23).number == 1, "23 octets of status");
+}
+
+static void test_lanes(void)
+{
+    int remainder_found = 1;
+    /* the lane with the place of UDW17 (word 23) and the check places of x^5+x^3+x^2+x+1 satisfies; its neighbours go back to it */
+    uint32_t lane = weight(23);
+    const int powers[5] = {5, 3, 2, 1, 0};
+    for (int k = 0; k < 5; k++)
+        lane += weight(24 + powers[k]);
+    for (int k = 0; k < 30; k++) {
+        uint32_t bad = bit_of(lane, k) ? lane - weight(k) : lane + weight(k);
+        if (lampcoil_lane_repair(bad).lane != lane)
+            remainder_found = 0;
+    }
+    expect(lampcoil_lane_repair(lane).lane == lane && remainder_found, "example 10");
+    expect(lampcoil_lane_repair(weight(30)).number == 2, "a lane of 2^30");
+    expect(lampcoil_lane_repair(3).number == 15, "two places of the zero lane");
+}
+
+static void test_packet(void)
+{
+    uint32_t bodies[4] = {lampcoil_body_write(1, 0, 0, 0).body, 0, 0, 0}, back[4];
+    uint16_t w[31], again[31];
+    expect(lampcoil_hd_write(1, 7, 4095, 1, 1, 0, bodies, 4, w, 31).number == 0, "packet");
+    expect(w[8] == 0x218 && w[9] == 0x200 && w[10] == 0x200 && w[11] == 0x180, "example 11");
+    lampcoil_hd_read_answer r = lampcoil_hd_read(w, 31, back, 4);
+    expect(r.number == 0 && r.group == 1 && r.dbn == 7 && r.phase == 4095 && r.ck12 == 1 && r.z1 == 1 && r.z2 == 0, "packet read");
+    expect(memcmp(bodies, back, sizeof back) == 0, "bodies read");
+    w[9] ^= 0xFF;
+    lampcoil_hd_repair_answer q = lampcoil_hd_repair(w, 31, again, 31);
+    w[9] ^= 0xFF;
+    expect(q.number == 0 && q.lanes == 8 && memcmp(w, again, sizeof w) == 0, "a word's low octet inverted is repaired");
+    expect(lampcoil_hd_next_dbn(254).dbn == 255 && lampcoil_hd_next_dbn(255).dbn == 0, "next DBN");
+    expect(lampcoil_hd_next_dbn(256).number == 2, "no DBN");
+}
+
+/* The link coding example of BS.1873: sent symbols printed one late. */
+static void test_madi(void)
+{
+    const char *printed = "0100110010001101010010101101100110010101";
+    static const int set[] = {4, 6, 9, 11, 12, 13, 14, 15, 20, 21, 26, 27};
+    uint32_t word = 0;
+    uint8_t line[640];
+    int same = 1;
+    for (size_t k = 0; k < sizeof set / sizeof set[0]; k++)
+        word += weight(set[k]);
+    expect(lampcoil_madi_write(56, &word, 1, 1, 0, line, 640).number == 0, "frame");
+    for (int k = 0; k < 39; k++)
+        if (symbol_of(line, k) != printed[k + 1] - '0')
+            same = 0;
+    expect(same && printed[0] == '0', "link coding example of BS.1873");
+}
+
+static void test_madi_counts(void)
+{
+    uint32_t back[64], words[64] = {0};
+    uint8_t line[640];
+    expect(lampcoil_madi_write(64, words, 64, 255, 1, line, 639).number == 0, "255 syncs");
+    lampcoil_madi_read_answer r = lampcoil_madi_read(64, 1, 5110, line, 639, back, 64);
+    expect(r.number == 0 && r.active == 64 && r.syncs == 255, "255 syncs read");
+    expect(lampcoil_madi_write(64, words, 64, 256, 1, line, 640).number == 2, "256 syncs");
+    expect(lampcoil_madi_write(64, words, 0, 1, 1, line, 640).number == 2, "0 active channels");
+    expect(lampcoil_madi_read(64, 0, 0, line, 0, back, 64).number == 10, "no bits");
+    /* one more sync after 255: the same ten symbols again, since a sync leaves the level as it was */
+    lampcoil_madi_write(56, words, 56, 255, 0, line, 640);
+    for (int k = 4790; k < 4800; k++)
+        line[k / 8] = (uint8_t)((line[k / 8] & ~(128 >> k % 8)) | symbol_of(line, k - 10) << (7 - k % 8));
+    r = lampcoil_madi_read(56, 0, 4800, line, 600, back, 56);
+    expect(r.number == 10 && r.place == 4790, "a 256th sync read");
+    /* no active channel: 11110 eight times a channel, then a sync */
+    const char *sync = "1100010001";
+    memset(line, 0, sizeof line);
+    for (int k = 0, level = 0; k < 2250; k++) {
+        level ^= k < 2240 ? k % 5 != 4 : sync[k - 2240] == '1';
+        line[k / 8] = (uint8_t)(line[k / 8] | level << (7 - k % 8));
+    }
+    r = lampcoil_madi_read(56, 0, 2250, line, 282, back, 56);
+    expect(r.number == 12 && r.place == 0, "0 active channels read");
+}
+
+int main(void)
+{
+    test_bodies();
+    test_silence();
+    test_under_z();
+    test_status();
+    test_lanes();
+    test_packet();
+    test_madi();
+    test_madi_counts();
+    printf("listed: %d passed, %d failed\n", passed, failed);
+    return failed != 0;
+}

@@ -1,0 +1,79 @@
+/* The second program: the same operations as include/lampcoil.h, written a second time from the scope document alone, bit by bit
+   and as plainly as possible, so that the library can be held against it. It shares no table, no trick and no line with
+   the library. Slow on purpose.
+   Build: cc -std=c11 yours.c second*.c */
+#ifndef SECOND_H
+#define SECOND_H
+
+#include <stddef.h>
+#include <stdint.h>
+
+typedef struct { uint32_t number, place; } second_verdict;
+
+typedef struct { uint32_t number, place, body; } second_body;
+typedef struct { uint32_t number, place; int32_t sample; uint32_t v, u, c; } second_body_meaning;
+
+typedef struct { uint32_t number, place, right; } second_status_check;
+typedef struct { uint32_t number, place, stages; } second_crcc;
+
+/* The meaning of status bytes 0 to 2. Each field counts the rows of its table in the order in which the table prints them,
+   from 0; a reserved state is SECOND_RESERVED, and its bits are then in the field `.._bits` (else 0), the lowest bit of
+   the state at weight 1. `length` is the word length in bits, 0 where it is not indicated. Under consumer use every other
+   field is 0. */
+#define SECOND_RESERVED 255u
+typedef struct {
+    uint32_t number, place;
+    uint32_t use, audio;
+    uint32_t emphasis, emphasis_bits;
+    uint32_t lock, rate;
+    uint32_t mode, mode_bits;
+    uint32_t user, user_bits;
+    uint32_t auxiliary, auxiliary_bits;
+    uint32_t length, length_bits;
+    uint32_t alignment, alignment_bits;
+} second_status_meaning;
+
+typedef struct { uint32_t number, place, crcc_a, crcc_b; } second_aes3_read_answer;
+typedef struct { uint32_t number, place, position; } second_aes3_start;
+typedef struct { uint32_t number, place, active, syncs; } second_madi_read_answer;
+typedef struct { uint32_t number, place, group, dbn, phase, ck12, z1, z2; } second_hd_read_answer;
+typedef struct { uint32_t number, place, lanes; } second_hd_repair_answer;
+typedef struct { uint32_t number, place, lane; } second_lane;
+typedef struct { uint32_t number, place, dbn; } second_dbn;
+
+second_body second_body_write(int32_t sample, uint32_t v, uint32_t u, uint32_t c);
+second_body_meaning second_body_read(uint32_t body);
+
+second_verdict second_status_seal(uint8_t *status, size_t status_len);
+second_status_check second_status_right(const uint8_t *status, size_t status_len);
+second_status_meaning second_status_read(const uint8_t *status, size_t status_len);
+second_crcc second_crcc_start(void);
+second_crcc second_crcc_feed(uint32_t stages, uint32_t bit);
+
+second_verdict second_aes3_write(const int32_t *samples, size_t samples_len, const uint8_t *side, size_t side_len, uint32_t level,
+                                 uint8_t *line, size_t line_len);
+second_aes3_read_answer second_aes3_read(const uint8_t *line, size_t line_len, int32_t *samples, size_t samples_len, uint8_t *side,
+                                         size_t side_len);
+second_aes3_start second_aes3_find(const uint8_t *line, size_t line_len);
+
+second_verdict second_madi_write(uint32_t channels, const uint32_t *words, size_t words_len, uint32_t syncs, uint32_t level,
+                                 uint8_t *line, size_t line_len);
+second_madi_read_answer second_madi_read(uint32_t channels, uint32_t level, uint32_t bits, const uint8_t *line, size_t line_len,
+                                         uint32_t *words, size_t words_len);
+
+second_verdict second_hd_write(uint32_t group, uint32_t dbn, uint32_t phase, uint32_t ck12, uint32_t z1, uint32_t z2,
+                               const uint32_t *bodies, size_t bodies_len, uint16_t *words, size_t words_len);
+second_hd_read_answer second_hd_read(const uint16_t *words, size_t words_len, uint32_t *bodies, size_t bodies_len);
+second_hd_repair_answer second_hd_repair(const uint16_t *words, size_t words_len, uint16_t *repaired, size_t repaired_len);
+second_lane second_lane_repair(uint32_t lane);
+second_dbn second_hd_next_dbn(uint32_t dbn);
+
+/* Small helps that the files of the second program share. */
+int second_bit(uint32_t number, int place);               /* the bit of weight 2^place */
+uint32_t second_weight(int place);                        /* 2^place */
+int second_symbol(const uint8_t *line, long place);       /* the symbol at a place of a packed line */
+void second_put(uint8_t *line, long place, int symbol);   /* sets it */
+int second_odd(uint32_t body);                            /* 1 if slots 4 to 31 hold an odd number of ones */
+int second_crcc_right(const uint8_t *status);             /* 1 if byte 23 of 24 octets is right */
+
+#endif

@@ -1,0 +1,180 @@
+/* The second program: AES3 blocks on a biphase line, and the search for their start. */
+#include "second.h"
+
+enum { FRAMES = 192, SUBFRAMES = 384, SIDE = 144, LINE = 3072 };
+enum { V_COLUMN = 0, U_COLUMN = 1, C_COLUMN = 2 };
+
+/* The eight symbols of each preamble after level 0. */
+static const int preamble_x[8] = {1, 1, 1, 0, 0, 0, 1, 0};
+static const int preamble_y[8] = {1, 1, 1, 0, 0, 1, 0, 0};
+static const int preamble_z[8] = {1, 1, 1, 0, 1, 0, 0, 0};
+
+static const int *preamble_due(int subframe)
+{
+    if (subframe == 0)
+        return preamble_z;
+    return subframe % 2 == 0 ? preamble_x : preamble_y;
+}
+
+static int after(int level, int symbol)
+{
+    return level == 0 ? symbol : 1 - symbol;
+}
+
+/* V, U, C of A, then V, U, C of B, 24 octets each; bit i of octet j belongs to frame 8j+i. */
+static int side_bit(const uint8_t *side, int channel, int column, int frame)
+{
+    return second_bit(side[72 * channel + 24 * column + frame / 8], frame % 8);
+}
+
+static uint32_t first_sample_outside(const int32_t *samples)
+{
+    for (uint32_t i = 0; i < SUBFRAMES; i++)
+        if (samples[i] < -8388608 || samples[i] > 8388607)
+            return i;
+    return SUBFRAMES;
+}
+
+/* Number 4, 5 or 6 for one channel. */
+static int status_breaks(const uint8_t *side, int channel, int number)
+{
+    if (number == 4)
+        return side_bit(side, channel, C_COLUMN, 0) == 0;
+    if (number == 5)
+        return !second_crcc_right(side + 72 * channel + 48);
+    if (side_bit(side, channel, C_COLUMN, 1) == 0)
+        return 0;
+    for (int frame = 0; frame < FRAMES; frame++)
+        if (side_bit(side, channel, V_COLUMN, frame) == 0)
+            return 1;
+    return 0;
+}
+
+static second_verdict refused(uint32_t number, uint32_t place)
+{
+    second_verdict r = {number, place};
+    return r;
+}
+
+/* The 64 symbols of a subframe after the given level; the level after it comes back. */
+static int write_subframe(uint8_t *line, int subframe, uint32_t body, int level)
+{
+    long at = 64L * subframe;
+    const int *due = preamble_due(subframe);
+    for (int k = 0; k < 8; k++)
+        second_put(line, at + k, after(level, due[k]));
+    int last = second_symbol(line, at + 7);
+    for (int slot = 4; slot <= 31; slot++) {
+        int one = 1 - last;
+        int two = second_bit(body, slot) == 1 ? 1 - one : one;
+        second_put(line, at + 2 * slot, one);
+        second_put(line, at + 2 * slot + 1, two);
+        last = two;
+    }
+    return last;
+}
+
+second_verdict second_aes3_write(const int32_t *samples, size_t samples_len, const uint8_t *side, size_t side_len, uint32_t level,
+                                 uint8_t *line, size_t line_len)
+{
+    if (samples_len != SUBFRAMES || side_len != SIDE || line_len != LINE)
+        return refused(1, 0);
+    if (level > 1)
+        return refused(2, 0);
+    if (first_sample_outside(samples) < SUBFRAMES)
+        return refused(3, first_sample_outside(samples));
+    for (int number = 4; number <= 6; number++)
+        for (int channel = 0; channel <= 1; channel++)
+            if (status_breaks(side, channel, number))
+                return refused((uint32_t)number, (uint32_t)channel);
+    int now = (int)level;
+    for (int i = 0; i < SUBFRAMES; i++) {
+        uint32_t v = (uint32_t)side_bit(side, i % 2, V_COLUMN, i / 2);
+        uint32_t u = (uint32_t)side_bit(side, i % 2, U_COLUMN, i / 2);
+        uint32_t c = (uint32_t)side_bit(side, i % 2, C_COLUMN, i / 2);
+        now = write_subframe(line, i, second_body_write(samples[i], v, u, c).body, now);
+    }
+    return refused(0, 0);
+}
+
+/* Reads a subframe into *body; the number of the slot rule that broke first, or 0. */
+static uint32_t read_subframe(const uint8_t *line, int subframe, int level, uint32_t *body)
+{
+    long at = 64L * subframe;
+    const int *due = preamble_due(subframe);
+    for (int k = 0; k < 8; k++)
+        if (second_symbol(line, at + k) != after(level, due[k]))
+            return 7;
+    *body = 0;
+    for (int slot = 4; slot <= 31; slot++) {
+        int before = second_symbol(line, at + 2 * slot - 1);
+        int one = second_symbol(line, at + 2 * slot);
+        int two = second_symbol(line, at + 2 * slot + 1);
+        if (one == before)
+            return 8;
+        if (two != one)
+            *body = *body + second_weight(slot);
+    }
+    return second_odd(*body) ? 9 : 0;
+}
+
+second_aes3_read_answer second_aes3_read(const uint8_t *line, size_t line_len, int32_t *samples, size_t samples_len, uint8_t *side,
+                                         size_t side_len)
+{
+    second_aes3_read_answer r = {0, 0, 0, 0};
+    uint32_t bodies[SUBFRAMES];
+    if (line_len != LINE || samples_len != SUBFRAMES || side_len != SIDE) {
+        r.number = 1;
+        return r;
+    }
+    int level = 1 - second_symbol(line, 0);
+    for (int i = 0; i < SUBFRAMES; i++) {
+        r.number = read_subframe(line, i, level, &bodies[i]);
+        if (r.number != 0) {
+            r.place = (uint32_t)i;
+            return r;
+        }
+        level = second_symbol(line, 64L * i + 63);
+    }
+    for (int k = 0; k < SIDE; k++)
+        side[k] = 0;
+    for (int i = 0; i < SUBFRAMES; i++) {
+        second_body_meaning m = second_body_read(bodies[i]);
+        uint32_t bits[3] = {m.v, m.u, m.c};
+        samples[i] = m.sample;
+        for (int column = 0; column < 3; column++)
+            if (bits[column] == 1) {
+                uint8_t *octet = &side[72 * (i % 2) + 24 * column + i / 2 / 8];
+                *octet = (uint8_t)(*octet + second_weight(i / 2 % 8));
+            }
+    }
+    r.crcc_a = (uint32_t)second_crcc_right(side + 48);
+    r.crcc_b = (uint32_t)second_crcc_right(side + 120);
+    return r;
+}
+
+static int preamble_stands(const uint8_t *line, long p, const int *preamble)
+{
+    int level = second_symbol(line, p - 1);
+    for (int k = 0; k < 8; k++)
+        if (second_symbol(line, p + k) != after(level, preamble[k]))
+            return 0;
+    return 1;
+}
+
+second_aes3_start second_aes3_find(const uint8_t *line, size_t line_len)
+{
+    second_aes3_start r = {0, 0, 0};
+    if (line_len > 8192) {
+        r.number = 1;
+        return r;
+    }
+    long symbols = 8 * (long)line_len;
+    for (long p = 1; p <= symbols - 72; p++)
+        if (preamble_stands(line, p, preamble_z) && preamble_stands(line, p + 64, preamble_y)) {
+            r.position = (uint32_t)p;
+            return r;
+        }
+    r.number = 17;
+    return r;
+}

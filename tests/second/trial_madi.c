@@ -1,0 +1,156 @@
+/* What crates/trial_madi prints, from the second program: MADI frames written, read back and damaged. `make expected` writes its output. */
+#include "second.h"
+#include <stdio.h>
+#include <string.h>
+
+static uint32_t next(uint32_t x)
+{
+    return (uint32_t)(((uint64_t)x * 1664525 + 1013904223) % 4294967296);
+}
+
+static uint32_t more(uint32_t h, uint32_t octet)
+{
+    return (h % 65521 * 31 + octet % 256) % 65521;
+}
+
+static uint32_t more_word(uint32_t h, uint32_t w)
+{
+    return more(more(more(more(h, w), w / 256), w / 65536), w / 16777216);
+}
+
+static uint32_t sum_octets(const uint8_t *line, size_t n)
+{
+    uint32_t h = 0;
+    for (size_t i = 0; i < n; i++)
+        h = more(h, line[i]);
+    return h;
+}
+
+static uint32_t sum_words(uint32_t h, const uint32_t *words, size_t n)
+{
+    for (size_t i = 0; i < n; i++)
+        h = more_word(h, words[i]);
+    return h;
+}
+
+static uint32_t word(uint32_t raw)
+{
+    uint32_t low = raw % 2147483648u / 4 * 4;
+    return low + (second_odd(low) ? 2147483648u : 0);
+}
+
+static uint32_t fill_words(uint32_t x, uint32_t *words, size_t n)
+{
+    for (size_t i = 0; i < n; i++) {
+        x = next(x);
+        words[i] = word(x);
+    }
+    return x;
+}
+
+static void write_case(uint32_t channels, const uint32_t *words, size_t count, uint32_t syncs, uint32_t level, uint8_t *line, size_t n)
+{
+    second_verdict v = second_madi_write(channels, words, count, syncs, level, line, n);
+    printf("w %u %u %u\n", v.number, v.place, sum_octets(line, n));
+}
+
+static void read_case(uint32_t channels, uint32_t level, uint32_t bits, const uint8_t *line, size_t n, uint32_t *words, size_t slots)
+{
+    second_madi_read_answer a = second_madi_read(channels, level, bits, line, n, words, slots);
+    printf("r %u %u %u %u %u\n", a.number, a.place, a.active, a.syncs, sum_words(0, words, slots));
+}
+
+static uint32_t there_and_back(uint32_t channels, size_t count, uint32_t syncs, uint32_t level, uint32_t seed)
+{
+    uint32_t words[66], back[66];
+    uint8_t line[640];
+    uint32_t x = fill_words(seed, words, 66);
+    for (int k = 0; k < 66; k++)
+        back[k] = 7;
+    memset(line, 165, sizeof line);
+    write_case(channels, words, count, syncs, level, line, sizeof line);
+    uint32_t bits = 40 * channels + 10 * syncs;
+    if ((bits + 7) / 8 <= sizeof line)
+        read_case(channels, level, bits, line, (bits + 7) / 8, back, channels);
+    return x;
+}
+
+static uint32_t edges(uint32_t x)
+{
+    static const uint32_t channels[4] = {56, 64, 55, 65}, syncs[5] = {1, 26, 255, 256, 0};
+    for (uint32_t k = 0; k < 300; k++) {
+        uint32_t n = channels[k % 4];
+        const uint32_t count[5] = {1, 2, n, 0, n + 1};
+        x = there_and_back(n, count[k / 4 % 5], syncs[k / 20 % 5], k / 100, x);
+    }
+    return x;
+}
+
+static void spoiled_words(uint32_t seed)
+{
+    for (uint32_t c = 0; c < 96; c++) {
+        uint32_t words[66], place = c / 32 * 27 + c / 64, b = c % 32;
+        uint8_t line[300];
+        memset(line, 90, sizeof line);
+        fill_words(seed, words, 66);
+        words[place] ^= 1u << b;
+        if (b == 31)
+            words[9] ^= 1;
+        write_case(56, words, 56, 3, 1, line, sizeof line);
+    }
+}
+
+static void lengths(uint32_t seed)
+{
+    uint32_t words[66], back[66];
+    uint8_t line[640] = {0};
+    fill_words(seed, words, 66);
+    for (int k = 0; k < 66; k++)
+        back[k] = 7;
+    write_case(56, words, 3, 2, 0, line, 282);
+    write_case(56, words, 3, 3, 0, line, 284);
+    write_case(56, words, 3, 2, 0, line, 283);
+    read_case(56, 0, 2260, line, 282, back, 56);
+    read_case(56, 0, 2260, line, 284, back, 56);
+    read_case(56, 0, 2260, line, 283, back, 55);
+    read_case(56, 0, 2260, line, 283, back, 57);
+    read_case(56, 0, 2259, line, 283, back, 56);
+    read_case(56, 0, 2261, line, 283, back, 56);
+    read_case(56, 0, 0, line, 0, back, 56);
+    read_case(56, 0, 5111, line, 639, back, 56);
+    read_case(56, 2, 2260, line, 283, back, 56);
+    line[282] ^= 1;
+    read_case(56, 0, 2260, line, 283, back, 56);
+    line[282] ^= 9;
+    read_case(56, 0, 2260, line, 283, back, 56);
+}
+
+static void damaged(uint32_t level, uint32_t seed)
+{
+    uint32_t words[66], h = 0;
+    uint8_t line[283] = {0};
+    fill_words(seed, words, 66);
+    write_case(56, words, 3, 2, level, line, sizeof line);
+    for (uint32_t c = 0; c < 2260; c++) {
+        uint32_t back[56];
+        for (int k = 0; k < 56; k++)
+            back[k] = 9;
+        line[c / 8] ^= (uint8_t)(1u << (7 - c % 8));
+        second_madi_read_answer a = second_madi_read(56, level, 2260, line, sizeof line, back, 56);
+        h = a.number == 0 ? more_word(more_word(h, a.active), a.syncs) : more_word(more_word(h, a.number), a.place);
+        h = sum_words(h, back, 56);
+        line[c / 8] ^= (uint8_t)(1u << (7 - c % 8));
+        if (c % 113 == 112)
+            printf("d %u\n", h);
+    }
+}
+
+int main(void)
+{
+    uint32_t x = edges(1);
+    spoiled_words(x);
+    lengths(x);
+    damaged(0, x);
+    damaged(1, x);
+    return 0;
+}
