@@ -7,5 +7,7 @@ pub mod Decoding
 pub mod BlockReading
 pub mod LineLaws
 pub mod LineTrips
+pub mod Bodies
+pub mod Flags
 pub mod Polarity
 pub mod BlockTrips

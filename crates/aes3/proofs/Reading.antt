@@ -1,27 +1,27 @@
 -- A subframe read octet by octet. Assumes nothing.
 use mathlib.Core.Path.{_≡_, refl, sym, ap, ap₂, _∙_}
-use mathlib.Core.Bool.{Bool, true, false}
+use mathlib.Core.Bool.{Bool, true, false, xor}
 use mathlib.Core.List.{List, [], _∷_, _++_}
 use Prim.Native.Nat.{ℕ, zero, suc, _+_, _*_, _%_, _^_, _≤_, _<_}
 use native.Mathlib.Omega.{arith}
 use borrow.Author.Tests.{eq-eqb, ne-eqb}
 use lib.Dec.{eqb}
-use lib.Count.{ones}
 use lib.ListN.{length, take, drop, getD, length-drop, drop-of-length-le}
 use lib.Seq.{drop-cons, take-at, drop-at}
 use Rattle.bits.specs.Pick.{pick}
-use Rattle.bits.specs.Row.{Row, odd, bits, bigBits, little, big, count, even}
+use Rattle.bits.specs.Row.{Row, odd, digit, bigBits, little, big, count, even}
 use Rattle.bits.specs.Window.{window}
 use Rattle.bits.specs.Pack.{chain, symbols}
 use Rattle.bits.proofs.Tests.{both-true, pick-cases, no-yes}
-use Rattle.bits.proofs.Rows.{length-bigBits, little-lt, bits-little}
-use Rattle.bits.proofs.Counts.{count-ones}
+use Rattle.bits.proofs.Digits.{digit-lt, digit-odd, digit-sum}
+use Rattle.bits.proofs.Rows.{length-bigBits, little-lt}
 use Rattle.bits.proofs.Packing.{highest, length-chain, octet-window}
-use Rattle.line.specs.Biphase.{left, changing, held}
-use Rattle.line.proofs.BiphaseLaws.{length-held}
-use Rattle.line.proofs.BiphaseOctets.{nibble, nibble-lt, left-octet, changing-octet, held-octet}
+use Rattle.line.specs.Biphase.{slots, left, changing, held}
+use Rattle.line.proofs.BiphaseLaws.{length-held, slots-held, slots-left}
+use Rattle.line.proofs.BiphaseOctets.{nibble, nibble-lt, left-octet, left-octets, changing-octet, held-octet}
 use Rattle.aes3.specs.Subframe.{preamble, bodyHeld, subframeRead}
 use Rattle.aes3.specs.Inner.{fourHeld, slotsHeld}
+use Rattle.aes3.proofs.Writing.{odd-preamble}
 use Rattle.aes3.specs.declared.SubframeAnswer.{SubframeAnswer}
 use Rattle.aes3.specs.declared.SubframeAnswer.the-variants.{Body, Refused}
 
@@ -172,18 +172,29 @@ module _ (os : List ℕ) (n : length os ≡ 8) where
             go true q = (q, rw q at d-is)
             go false q = absurd (let z : d ≡ 268435456 = rw q at d-is in omega arith)
 
-        -- the language's count of ones is that of the slots
-        same-ones : count (held rest) ≡ ones d
-        same-ones =
-            let b : bits 28 (little (held rest)) ≡ held rest = rw long at (bits-little (held rest)) in
-            ap count (sym b) ∙ rw (← sound .1) (count-ones 28 d (omega arith))
+        -- the last symbol is the level that 28 slots leave: an even number of ones leaves it as it was
+        last : odd (at 7) ≡ xor l (odd (28 + count (held rest)))
+        last =
+            let seven-long : length (drop 1 os) ≡ 7 = rw (length-drop 1 os) (omega arith) in
+            let begin : odd (at 0) ≡ l = ap odd m ∙ odd-preamble i l in
+            let end : left l rest ≡ odd (getD (drop 1 os) 6 0) = left-octets l (drop 1 os) 6 seven-long in
+            let seventh : getD (drop 1 os) 6 0 ≡ at 7 = ap (λ (xs : List ℕ). getD xs 6 0) seven in
+            let same : slots l (held rest) ≡ rest = slots-held l rest (rw begin at (sound .0)) in
+            ap odd (sym seventh) ∙ sym end ∙ ap (left l) (sym same) ∙ rw (slots-left l (held rest), long)
 
-        pub answer-9 : ones d % 2 ≡ 1 → Refused 9 ≡ subframeRead i l (symbols os)
+        counted : at 7 % 2 ≡ (digit l + count (held rest)) % 2
+        counted =
+            let s : at 7 % 2 ≡ (digit l + digit (odd (28 + count (held rest)))) % 2 =
+            sym (digit-odd (at 7)) ∙ ap digit last ∙ digit-sum l (odd (28 + count (held rest))) in
+            omega (arith, s, digit-odd (28 + count (held rest)))
+
+        pub answer-9 : (at 7 % 2 ≡ digit l → ⊥) → Refused 9 ≡ subframeRead i l (symbols os)
         answer-9 o =
-            rw (read-open, eq-eqb (at 0) (big (preamble i l)) m, sound .0, same-ones, o)
+            let z : count (held rest) % 2 ≡ 1 = omega (arith, counted, digit-lt l) in
+            rw (read-open, eq-eqb (at 0) (big (preamble i l)) m, sound .0, z)
 
-        pub answer-body : (ones d % 2 ≡ 1 → ⊥) → Body (d * 16) ≡ subframeRead i l (symbols os)
+        pub answer-body : at 7 % 2 ≡ digit l → Body (d * 16) ≡ subframeRead i l (symbols os)
         unfolding bodyHeld
         answer-body o =
-            let z : ones d % 2 ≡ 0 = omega arith in
-            rw (read-open, eq-eqb (at 0) (big (preamble i l)) m, sound .0, same-ones, z, ← sound .1)
+            let z : count (held rest) % 2 ≡ 0 = omega (arith, counted, digit-lt l) in
+            rw (read-open, eq-eqb (at 0) (big (preamble i l)) m, sound .0, z, ← sound .1)

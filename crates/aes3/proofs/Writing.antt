@@ -2,7 +2,7 @@
 use mathlib.Core.Path.{_≡_, refl, sym, ap, _∙_}
 use mathlib.Core.Bool.{Bool, true, false}
 use mathlib.Core.List.{List, [], _∷_, _++_}
-use Prim.Native.Nat.{ℕ, zero, suc, _+_, _*_, _/_, _%_}
+use Prim.Native.Nat.{ℕ, zero, suc, _+_, _-_, _*_, _/_, _%_, _<_}
 use native.Mathlib.Omega.{arith}
 use lib.Dec.{eqb}
 use lib.ListN.{length, drop, set, getD, length-append}
@@ -31,6 +31,15 @@ unfolding due
 due-cases P x y z i =
     pick-cases P (eqb i 0) preambleZ (pick (odd i) preambleY preambleX) (λ _. z) (λ _. pick-cases P (odd i) preambleY preambleX (λ _. y) (λ _. x))
 
+pub due-lt : (i : ℕ) → big (due i) < 256
+unfolding bigBits big
+due-lt = due-cases (λ r. big r < 256) (omega arith) (omega arith) (omega arith)
+
+-- after level 1 all symbols are inverted
+pub due-inverted : (i : ℕ) → 255 - big (due i) ≡ big (preamble i true)
+unfolding preamble afterLevel bigBits big
+due-inverted = due-cases (λ r. 255 - big r ≡ big (afterLevel true r)) refl refl refl
+
 pub length-preamble : (i : ℕ) (l : Bool) → length (preamble i l) ≡ 8
 unfolding preamble afterLevel bigBits
 length-preamble i true = due-cases (λ r. length (afterLevel true r) ≡ 8) refl refl refl i
@@ -41,6 +50,12 @@ pub left-preamble : (i : ℕ) (l : Bool) → left l (preamble i l) ≡ l
 unfolding preamble afterLevel bigBits left
 left-preamble i true = due-cases (λ r. left true (afterLevel true r) ≡ true) refl refl refl i
 left-preamble i false = due-cases (λ r. left false (afterLevel false r) ≡ false) refl refl refl i
+
+-- so its last symbol is that level
+pub odd-preamble : (i : ℕ) (l : Bool) → odd (big (preamble i l)) ≡ l
+unfolding preamble afterLevel bigBits big
+odd-preamble i true = due-cases (λ r. odd (big (afterLevel true r)) ≡ true) refl refl refl i
+odd-preamble i false = due-cases (λ r. odd (big (afterLevel false r)) ≡ false) refl refl refl i
 
 -- ---- a subframe in octets
 

@@ -1,13 +1,16 @@
 -- Clauses that only inner functions need. Assumes nothing.
-use Prim.Native.Nat.{ℕ, _/_, _%_}
+use Prim.Native.Nat.{ℕ, zero, suc, _+_, _*_, _/_, _%_, _^_}
 use mathlib.Core.Bool.{false}
 use mathlib.Core.List.{List}
 use lib.ListN.{drop, getD}
 use Rattle.bits.specs.Pick.{pick}
-use Rattle.bits.specs.Row.{odd, bits, bigBits, little, big}
+use Rattle.bits.specs.Row.{odd, bit, bits, bigBits, little, big}
 use Rattle.bits.specs.Pack.{symbols}
 use Rattle.bits.specs.Listed.{listed}
 use Rattle.line.specs.Biphase.{slots, changing, held}
+use Rattle.subframe.specs.Body.{bodyOf}
+use Rattle.subframe.specs.Side.{validity, user, status}
+use Rattle.block.specs.Block.{sideAt}
 use Rattle.aes3.specs.Line.{LineRead, LineRead.All, LineRead.Stopped}
 use Rattle.aes3.specs.declared.Decoded.{Decoded}
 use Rattle.aes3.specs.declared.Decoded.the-variants.{Whole, Refused}
@@ -15,6 +18,27 @@ use Rattle.aes3.specs.declared.Decoded.the-variants.{Whole, Refused}
 -- the sixteen symbols of the eight bits of each octet, lowest first, after level 0
 unfoldable pub eightTable : List ℕ
 eightTable = listed 0 256 (λ d. big (slots false (bits 8 d)))
+
+-- the body of 27 bits: a sample's 24, then V, U and C
+unfoldable pub bodyWith : ℕ → ℕ
+bodyWith x = bodyOf (x % 2 ^ 24) (bit 24 x) (bit 25 x) (bit 26 x)
+
+-- V, U and C of subframe i
+unfoldable pub flags : List ℕ → ℕ → ℕ
+flags side i = sideAt side validity i + sideAt side user i * 2 + sideAt side status i * 4
+
+-- those of n subframes from subframe i on, the first at weight 1, the next at 16
+unfoldable pub flagsFrom : List ℕ → ℕ → ℕ → ℕ
+flagsFrom side i zero = 0
+flagsFrom side i (suc n) = flags side i + 16 * flagsFrom side (suc i) n
+
+-- the bits of an octet at weights 1, 2^8, 2^16 and so on
+unfoldable pub spread : ℕ → ℕ
+spread o = bit 0 o + bit 1 o * 2 ^ 8 + bit 2 o * 2 ^ 16 + bit 3 o * 2 ^ 24 + bit 4 o * 2 ^ 32 + bit 5 o * 2 ^ 40 + bit 6 o * 2 ^ 48 + bit 7 o * 2 ^ 56
+
+-- the same of each number below 16
+unfoldable pub spreadTable : List ℕ
+spreadTable = listed 0 16 (λ x. bit 0 x + bit 1 x * 2 ^ 8 + bit 2 x * 2 ^ 16 + bit 3 x * 2 ^ 24)
 
 -- the four bits that an octet holds after another; 128 where a slot does not begin with a change
 unfoldable pub fourHeld : ℕ → ℕ → ℕ

@@ -1,21 +1,25 @@
 // AES3 on the line: 384 samples and a side table written as a block of 3,072 octets, and such a block read.
 ghost use mathlib.Core.Path.{_≡_};
-ghost use Prim.Native.Nat.{_<_};
+ghost use mathlib.Core.Bool.{true};
+ghost use Prim.Native.Nat.{_-_, _*_, _%_, _<_};
 ghost use lib.ListN.{length};
 ghost use Rattle.bits.specs.Row.{odd, digit, bits, big};
 ghost use Rattle.bits.specs.Pack.{octets, symbols};
 ghost use Rattle.line.specs.Biphase.{slots, left};
-ghost use Rattle.block.specs.Check.{statusRight};
-ghost use Rattle.aes3.specs.Subframe.{preamble, subframe, subframeRead, subframeNumber};
+ghost use Rattle.subframe.specs.Signed.{inRange, codeOf};
+ghost use Rattle.block.specs.Check.{statusRight, checked};
+ghost use Rattle.block.specs.declared.BlockAnswer.the-variants.{Sound};
+ghost use Rattle.aes3.specs.Subframe.{due, preamble, subframe, subframeRead, subframeNumber};
 ghost use Rattle.aes3.specs.Line.{bodiesOn};
 ghost use Rattle.aes3.specs.Block.{blockLine, writeAnswer, lineWritten, readAnswer, samplesRead, sideRead};
-ghost use Rattle.aes3.specs.Inner.{eightTable, backTable, fourHeld, slotsHeld, decoded};
+ghost use Rattle.aes3.specs.Inner.{eightTable, bodyWith, flagsFrom, spread, spreadTable, backTable, fourHeld, slotsHeld, decoded};
 
 mod tables;
 
 use block::BlockAnswer;
 use tables::BACK;
 use tables::EIGHT;
+use tables::SPREAD;
 
 // What writing a block answers.
 pub enum WriteAnswer {
@@ -41,27 +45,29 @@ pub enum Decoded {
     Refused { number: u32, place: u32 },
 }
 
-// The octet of the preamble that opens subframe i after a level.
+// The octet of the preamble that opens subframe i after level 0.
+fn due_octet(i: usize) -> u8
+    ensures { λ r. ⌜ r ≡ big (due i) ⌝ }
+{
+    if i == 0 {
+        return 0b11101000;
+    }
+    if i % 2 == 1 {
+        return 0b11100100;
+    }
+    0b11100010
+}
+
+// The same after a level.
 fn mark(i: usize, level: u32) -> u8
     requires { ⌜ level < 2 ⌝ }
     ensures { λ r. ⌜ r ≡ big (preamble i (odd level)) ⌝ }
 {
+    let m = due_octet(i);
     if level == 0 {
-        if i == 0 {
-            return 0b11101000;
-        }
-        if i % 2 == 1 {
-            return 0b11100100;
-        }
-        return 0b11100010;
+        return m;
     }
-    if i == 0 {
-        return 0b00010111;
-    }
-    if i % 2 == 1 {
-        return 0b00011011;
-    }
-    0b00011101
+    255 - m
 }
 
 // The sixteen symbols of eight slots that hold the lowest bits of d, lowest first, after symbols whose last is the lowest bit of `before`.
@@ -77,16 +83,16 @@ fn eight(table: &[u16], before: u32, d: u32) -> u32
     65535 - s
 }
 
-// Subframe i into eight octets; the level that it leaves.
-fn write_subframe(table: &[u16], i: usize, level: u32, body: u32, part: &mut [u8]) -> u32
-    requires { ⌜ (now table ≡ eightTable) × (level < 2) × (length (now part) ≡ 8) ⌝ }
-    ensures { λ r. ⌜ (now (part .exit) ≡ octets 8 (subframe i (odd level) body)) × (r ≡ digit (left (odd level) (subframe i (odd level) body))) ⌝ }
+// Subframe i into eight octets: a sample's 24 bits, V, U and C. An even body ends on the level that it began after, and so the last symbol
+// is that level.
+fn write_subframe(table: &[u16], i: usize, level: u32, word: u32, part: &mut [u8])
+    requires { ⌜ (now table ≡ eightTable) × (level < 2) × (word < 134217728) × (length (now part) ≡ 8) ⌝ }
+    ensures { λ _. ⌜ now (part .exit) ≡ octets 8 (subframe i (odd level) (bodyWith word)) ⌝ }
 {
-    let x = body / 16;
-    let a = eight(table, level, x);
-    let b = eight(table, a, x / 256);
-    let c = eight(table, b, x / 65536);
-    let d = eight(table, c, x / 16777216);
+    let a = eight(table, level, word);
+    let b = eight(table, a, word / 256);
+    let c = eight(table, b, word / 65536);
+    let d = eight(table, c, word / 16777216);
     part[0] = mark(i, level);
     part[1] = (a / 256) as u8;
     part[2] = (a % 256) as u8;
@@ -94,22 +100,74 @@ fn write_subframe(table: &[u16], i: usize, level: u32, body: u32, part: &mut [u8
     part[4] = (b % 256) as u8;
     part[5] = (c / 256) as u8;
     part[6] = (c % 256) as u8;
-    part[7] = (d / 256) as u8;
-    d / 256 % 2
+    part[7] = (d / 512 * 2 + level) as u8;
 }
 
-// All subframes of a block into its line.
-fn write_line(table: &[u16], samples: &[i32], side: &[u8], level: u32, line: &mut [u8])
-    requires { ⌜ (now table ≡ eightTable) × (length (now samples) ≡ 384) × (length (now side) ≡ 144) × (level < 2) × (length (now line) ≡ 3072) ⌝ }
+// The 24 bits of a sample.
+fn code(sample: i32) -> u32
+    requires { ⌜ inRange 24 sample ≡ true ⌝ }
+    ensures { λ r. ⌜ r ≡ codeOf 24 sample ⌝ }
+{
+    ((sample + 16777216) as u32) % 16777216
+}
+
+// The bits of an octet at weights 1, 2^8, 2^16 and so on.
+fn spread_octet(spreads: &[u32], o: u8) -> u64
+    requires { ⌜ now spreads ≡ spreadTable ⌝ }
+    ensures { λ r. ⌜ (r ≡ spread o) × (r < 72340172838076674) ⌝ }
+{
+    let low = spreads[(o % 16) as usize] as u64;
+    let high = spreads[(o / 16) as usize] as u64;
+    low + high * 4294967296
+}
+
+// V, U and C of the sixteen subframes from 16 j on, at weights 1, 16 and so on.
+fn sixteen(spreads: &[u32], side: &[u8], j: usize) -> u64
+    requires { ⌜ (now spreads ≡ spreadTable) × (length (now side) ≡ 144) × (j < 24) ⌝ }
+    ensures { λ r. ⌜ r ≡ flagsFrom (now (side .entry)) (16 * j) 16 ⌝ }
+{
+    let va = spread_octet(spreads, side[j]);
+    let ua = spread_octet(spreads, side[24 + j]);
+    let ca = spread_octet(spreads, side[48 + j]);
+    let vb = spread_octet(spreads, side[72 + j]);
+    let ub = spread_octet(spreads, side[96 + j]);
+    let cb = spread_octet(spreads, side[120 + j]);
+    va + ua * 2 + ca * 4 + (vb + ub * 2 + cb * 4) * 16
+}
+
+// V, U and C of the subframes from i on, up to the next sixteen: what is left of the sixteen, or new ones.
+fn flags_left(spreads: &[u32], side: &[u8], i: usize, left: u64) -> u64
+    requires { ⌜ (now spreads ≡ spreadTable) × (length (now side) ≡ 144) × (i < 384) × (0 < i % 16 → left ≡ flagsFrom (now side) i (16 - i % 16)) ⌝ }
+    ensures { λ r. ⌜ r ≡ flagsFrom (now (side .entry)) i (16 - i % 16) ⌝ }
+{
+    if i % 16 == 0 {
+        return sixteen(spreads, side, i / 16);
+    }
+    left
+}
+
+// All subframes of a block that is sound into its line.
+fn write_line(
+    table: &[u16],
+    spreads: &[u32],
+    samples: &[i32],
+    side: &[u8],
+    level: u32,
+    line: &mut [u8],
+)
+    requires { ⌜ (now table ≡ eightTable) × (now spreads ≡ spreadTable) × (checked (now samples) (now side) ≡ Sound) × (length (now samples) ≡ 384) × (length (now side) ≡ 144) × (level < 2) × (length (now line) ≡ 3072) ⌝ }
     ensures { λ _. ⌜ now (line .exit) ≡ blockLine (now (samples .entry)) (now (side .entry)) level ⌝ }
 {
-    let mut l = level;
+    let mut left: u64 = 0;
     let mut i: usize = 0;
     while i < 384 {
         let a = i * 8;
         let e = a + 8;
-        let body = block::body_at(samples, side, i);
-        l = write_subframe(table, i, l, body, &mut line[a..e]);
+        let all = flags_left(spreads, side, i, left);
+        let x = samples[i];
+        let word = code(x) + (all % 8) as u32 * 16777216;
+        write_subframe(table, i, level, word, &mut line[a..e]);
+        left = all / 16;
         i += 1;
     }
 }
@@ -148,7 +206,8 @@ pub fn write_block(samples: &[i32], side: &[u8], level: u32, line: &mut [u8]) ->
         return WriteAnswer::Refused { number, place };
     }
     let table = EIGHT;
-    write_line(&table, samples, side, level, line);
+    let spreads = SPREAD;
+    write_line(&table, &spreads, samples, side, level, line);
     WriteAnswer::Written
 }
 
@@ -199,7 +258,8 @@ fn read_subframe(table: &[u8], i: usize, level: u32, part: &[u8]) -> SubframeAns
     if 268435455 < d {
         return SubframeAnswer::Refused(8);
     }
-    if u32::count_ones(d) % 2 == 1 {
+    // an even number of ones leaves the level as it was
+    if part[7] as u32 % 2 != level {
         return SubframeAnswer::Refused(9);
     }
     SubframeAnswer::Body(d * 16)

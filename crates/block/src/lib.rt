@@ -5,7 +5,7 @@ ghost use lib.ListN.{length, getD};
 ghost use Rattle.bits.specs.Pick.{first};
 ghost use Rattle.subframe.specs.Side.{columns, sideLength};
 ghost use Rattle.block.specs.Block.{sideAt, bodyGiven, samplesOf, sideOf, fillNumber, samplesFilled, sideFilled};
-ghost use Rattle.block.specs.Inner.{threeBits, threeOctets, channelSide};
+ghost use Rattle.block.specs.Inner.{threeBits, apartTable, threeOctets, channelSide};
 ghost use Rattle.block.specs.Check.{statusOf, statusRight, outside, consumer, wrong, someValid, unmarked, statusChecked, checked};
 
 mod tables;
@@ -232,36 +232,36 @@ fn fill_samples(bodies: &[u32], samples: &mut [i32])
 }
 
 // V, U and C of slots 28 to 31, at weights 1, 2^8 and 2^16.
-fn apart(last: u32) -> u32
-    requires { ⌜ last < 16 ⌝ }
+fn apart(table: &[u32], last: u32) -> u32
+    requires { ⌜ (now table ≡ apartTable) × (last < 16) ⌝ }
     ensures { λ r. ⌜ r ≡ threeBits last ⌝ }
 {
-    APART[last as usize]
+    table[last as usize]
 }
 
 // Octet j of each of V, U and C of a channel, at weights 1, 2^8 and 2^16: eight of its bodies, the last first.
-fn three_octets(bodies: &[u32], channel: usize, j: usize) -> u32
-    requires { ⌜ (length (now bodies) ≡ 384) × (channel < 2) × (j < 24) ⌝ }
+fn three_octets(table: &[u32], bodies: &[u32], channel: usize, j: usize) -> u32
+    requires { ⌜ (now table ≡ apartTable) × (length (now bodies) ≡ 384) × (channel < 2) × (j < 24) ⌝ }
     ensures { λ r. ⌜ r ≡ threeOctets (now (bodies .entry)) channel (j * 8) 8 ⌝ }
 {
     let mut n: u32 = 0;
     let mut m = 0;
     while m < 8 {
         let b = bodies[2 * (j * 8 + 7 - m) + channel];
-        n = n * 2 + apart(b / 268435456);
+        n = n * 2 + apart(table, b / 268435456);
         m += 1;
     }
     n
 }
 
 // V, U and C of a channel.
-fn fill_channel(bodies: &[u32], channel: usize, part: &mut [u8])
-    requires { ⌜ (length (now bodies) ≡ 384) × (channel < 2) × (length (now part) ≡ 24 * columns) ⌝ }
+fn fill_channel(table: &[u32], bodies: &[u32], channel: usize, part: &mut [u8])
+    requires { ⌜ (now table ≡ apartTable) × (length (now bodies) ≡ 384) × (channel < 2) × (length (now part) ≡ 24 * columns) ⌝ }
     ensures { λ r. ⌜ now (part .exit) ≡ channelSide (now (bodies .entry)) channel ⌝ }
 {
     let mut j = 0;
     while j < 24 {
-        let n = three_octets(bodies, channel, j);
+        let n = three_octets(table, bodies, channel, j);
         part[j] = (n % 256) as u8;
         part[24 + j] = (n / 256 % 256) as u8;
         part[48 + j] = (n / 65536) as u8;
@@ -270,15 +270,15 @@ fn fill_channel(bodies: &[u32], channel: usize, part: &mut [u8])
 }
 
 // The side table of 384 bodies, channel by channel.
-fn fill_side(bodies: &[u32], side: &mut [u8])
-    requires { ⌜ (length (now bodies) ≡ 384) × (length (now side) ≡ sideLength) ⌝ }
+fn fill_side(table: &[u32], bodies: &[u32], side: &mut [u8])
+    requires { ⌜ (now table ≡ apartTable) × (length (now bodies) ≡ 384) × (length (now side) ≡ sideLength) ⌝ }
     ensures { λ r. ⌜ now (side .exit) ≡ sideOf (now (bodies .entry)) ⌝ }
 {
     let mut k = 0;
     while k < 2 {
         let a = k * 72;
         let e = a + 72;
-        fill_channel(bodies, k, &mut side[a..e]);
+        fill_channel(table, bodies, k, &mut side[a..e]);
         k += 1;
     }
 }
@@ -299,6 +299,7 @@ pub fn fill_block(bodies: &[u32], samples: &mut [i32], side: &mut [u8]) -> u32
         return 1;
     }
     fill_samples(bodies, samples);
-    fill_side(bodies, side);
+    let table = APART;
+    fill_side(&table, bodies, side);
     0
 }

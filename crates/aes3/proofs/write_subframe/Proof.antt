@@ -1,8 +1,10 @@
 -- `aes3::write_subframe` meets its contract: its octets are those of the preamble and of the slots' symbols. Assumes nothing.
+use mathlib.Core.Path.{sym}
 use native.Mathlib.Omega.{arith}
 use lib.ListN.{length-set}
 use Rattle.bits.specs.Row.{odd}
-use Rattle.aes3.proofs.Writing.{subframe-laid, level-laid}
+use Rattle.bits.proofs.Digits.{digit-same}
+use Rattle.aes3.proofs.Bodies.{laid-with}
 use borrow.Author.Needs.{needs}
 use Rattle.aes3.proofs.write_subframe.Statement.{statement}
 use Rattle.aes3.proofs.write_subframe.Tie as tie
@@ -61,6 +63,12 @@ cast-part-6 c = omega arith
 slice-write-part-7 : tie.Need-slice-write-part-7
 slice-write-part-7 c = simp length-set (omega arith)
 
+mul-part : tie.Need-mul-part
+mul-part c = omega arith
+
+add-part : tie.Need-add-part
+add-part c = omega arith
+
 cast-part-7 : tie.Need-cast-part-7
 cast-part-7 c = omega arith
 
@@ -76,15 +84,14 @@ returns c =
     let part = start .args .part .now in
     let i = start .args .i in
     let l = odd (start .args .level) in
-    let body = start .args .body in
+    let word = start .args .word in
     let p = c .before .before .before .before .eight in
     let q = c .before .before .before .eight2 in
     let r = c .before .before .eight3 in
     let s = c .before .eight4 in
-    let m = c .mark in (
-      subframe-laid i l body part (m .result) (p .result) (q .result) (r .result) (s .result) (start .pre .2) (m .ensures) (p .ensures .0) (q .ensures .0) (r .ensures .0) (s .ensures .0),
-      level-laid i l body part (m .result) (p .result) (q .result) (r .result) (s .result) (start .pre .2) (m .ensures) (p .ensures .0) (q .ensures .0) (r .ensures .0) (s .ensures .0),
-    )
+    let m = c .mark in
+    laid-with i l word part (m .result) (p .result) (q .result) (r .result) (s .result) (start .args .level) (start .pre .2) (start .pre .3) (m .ensures)
+    (p .ensures .0) (q .ensures .0) (r .ensures .0) (s .ensures .0) (sym (digit-same (start .args .level) (start .pre .1)))
 
 pub write-subframe-spec : {M : Type 1} → statement M
 write-subframe-spec =
@@ -108,6 +115,8 @@ write-subframe-spec =
     slice-write-part-6
     cast-part-6
     slice-write-part-7
+    mul-part
+    add-part
     cast-part-7
     slice-write-part-8
     same-length

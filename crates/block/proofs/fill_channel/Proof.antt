@@ -11,10 +11,10 @@ use Rattle.block.proofs.fill_channel.Statement.{statement}
 use Rattle.block.proofs.fill_channel.Tie as tie
 
 abbrev Inv-loop : tie.InvT-loop
-Inv-loop bodies channel part₀ j₀ part j = (j ≤ 24) × (length part ≡ 24 * columns) × Upto bodies channel j part
+Inv-loop table bodies channel part₀ j₀ part j = (j ≤ 24) × (length part ≡ 24 * columns) × Upto bodies channel j part
 
 abbrev μ-loop : tie.MeasureT-loop
-μ-loop bodies channel part₀ j₀ part j = 24 - j
+μ-loop table bodies channel part₀ j₀ part j = 24 - j
 
 module _ (c : tie.At-loop Inv-loop μ-loop) where
   abbrev part : List ℕ
@@ -30,14 +30,14 @@ module _ (c : tie.After-three-octets Inv-loop μ-loop) where
   small : n < 2 ^ 24
   small =
       let p = c .before .before in
-      let a = p .before .before .before .args in
+      let a = p .before .before .before .before .args in
       omega (arith, c .three-octets .ensures, three-lt (a .bodies .now) (a .channel) (j p * 8) 8 (omega arith))
 
 loop-holds : tie.Need-loop-holds Inv-loop μ-loop
 loop-holds c = (omega arith, omega arith, λ k o hk ho. absurd (omega arith))
 
 three-octets-requires : tie.Need-three-octets-requires Inv-loop μ-loop
-three-octets-requires c κs = omega arith
+three-octets-requires c κs = (c .before .before .before .before .before .pre .0, omega arith, omega arith, omega arith)
 
 cast-part : tie.Need-cast-part Inv-loop μ-loop
 cast-part c = omega arith
@@ -74,7 +74,7 @@ loop-less c = omega arith
 loop-again : tie.Need-loop-again Inv-loop μ-loop
 loop-again c =
     let p = c .before .before in
-    let a = p .before .before .before .args in (
+    let a = p .before .before .before .before .args in (
       omega arith,
       long-three (a .bodies .now) (a .channel) (part p) (j p) (n c) (p .loop .inv .1) (c .before .loop-test .taken) (c .three-octets .ensures),
       turn (a .bodies .now) (a .channel) (part p) (j p) (n c) (p .loop .inv .1) (c .before .loop-test .taken) (c .three-octets .ensures) (p .loop .inv .2),
@@ -86,7 +86,7 @@ same-length c = omega arith
 returns : tie.Need-returns Inv-loop μ-loop
 returns c =
     let p = c .before in
-    let a = p .before .before .before .args in
+    let a = p .before .before .before .before .args in
     let e : j p ≡ 24 = omega arith in
     whole (a .bodies .now) (a .channel) (part p) (p .loop .inv .1) (λ k o hk ho. p .loop .inv .2 k o hk (omega arith))
 

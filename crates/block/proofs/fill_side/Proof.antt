@@ -17,11 +17,11 @@ use Rattle.block.proofs.fill_side.Statement.{statement}
 use Rattle.block.proofs.fill_side.Tie as tie
 
 abbrev Inv-loop : tie.InvT-loop
-Inv-loop bodies side₀ k₀ side k =
+Inv-loop table bodies side₀ k₀ side k =
     (k ≤ 2) × (length side ≡ sideLength) × (take (k * 72) side ++ joined k (2 - k) (channelSide bodies) ≡ sideOf bodies)
 
 abbrev μ-loop : tie.MeasureT-loop
-μ-loop bodies side₀ k₀ side k = 2 - k
+μ-loop table bodies side₀ k₀ side k = 2 - k
 
 module _ (side bodies : List ℕ) (k : ℕ) where
   abbrev f : ℕ → List ℕ
@@ -43,7 +43,7 @@ module _ (side bodies : List ℕ) (k : ℕ) where
       filled-all side (sideOf bodies) (k * 72) (omega arith) (rw z at q)
 
 loop-holds : tie.Need-loop-holds Inv-loop μ-loop
-loop-holds c = (omega arith, omega arith, side-halves (c .before .before .args .bodies .now))
+loop-holds c = (omega arith, omega arith, side-halves (c .before .before .before .args .bodies .now))
 
 mul-a : tie.Need-mul-a Inv-loop μ-loop
 mul-a c = omega arith
@@ -74,18 +74,18 @@ loop-again c =
     let p = c .before .before .before .before .before in
     let v = p .loop in
     let f = c .before .before .fill-channel in
-    let o = f .last .1 .1 .0 in
+    let o = f .last .1 .1 .1 .0 in
     let h = c .before .before .before .before .loop-test .taken in (
       omega arith,
-      same-len-mid {X = ℕ} (v .k * 72) (v .k * 72 + 72 - v .k * 72) (v .side) o (f .kept .1 .1 .0) ∙ v .inv .1,
-      turn (v .side) (p .before .before .before .args .bodies .now) (v .k) o _ h (v .inv .1) (f .ensures) (v .inv .2),
+      same-len-mid {X = ℕ} (v .k * 72) (v .k * 72 + 72 - v .k * 72) (v .side) o (f .kept .1 .1 .1 .0) ∙ v .inv .1,
+      turn (v .side) (p .before .before .before .before .args .bodies .now) (v .k) o _ h (v .inv .1) (f .ensures) (v .inv .2),
     )
 
 same-length : tie.Need-same-length Inv-loop μ-loop
 same-length c = omega arith
 
 returns : tie.Need-returns Inv-loop μ-loop
-returns c = done (c .before .loop .side) (c .before .before .before .before .args .bodies .now) (c .before .loop .k) (c .loop-test .left) (c .before .loop .inv .1) (c .before .loop .inv .2)
+returns c = done (c .before .loop .side) (c .before .before .before .before .before .args .bodies .now) (c .before .loop .k) (c .loop-test .left) (c .before .loop .inv .1) (c .before .loop .inv .2)
 
 pub fill-side-spec : {M : Type 1} → statement M
 fill-side-spec =
