@@ -1,7 +1,6 @@
 -- AES3 and MADI leave no residue in a lent buffer. Assumes nothing.
 use mathlib.Core.Path.{_≡_, refl, sym, ap, _∙_}
-use Prim.Native.Nat.{ℕ, _+_, _*_, _/_}
-use native.Mathlib.Omega.{arith}
+use Prim.Native.Nat.{ℕ, _+_, _*_}
 use mathlib.Core.Bool.{Bool, true, false, _&&_}
 use mathlib.Core.List.{List, [], _++_}
 use lib.Dec.{eqb}
@@ -9,7 +8,6 @@ use lib.IntN.{ℤ}
 use lib.ListN.{length, drop, length-map}
 use borrow.Author.Tests.{eqb-true}
 use Rattle.bits.specs.Row.{odd, big}
-use Rattle.bits.specs.Pack.{octets}
 use Rattle.bits.proofs.Tests.{pick-cases, both-true, no-yes}
 use Rattle.bits.proofs.Packing.{length-pack}
 use Rattle.line.specs.Nrzi.{levels}

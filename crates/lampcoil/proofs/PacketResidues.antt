@@ -5,12 +5,12 @@ use native.Mathlib.Omega.{arith}
 use mathlib.Core.Bool.{Bool, true, false, _&&_}
 use mathlib.Core.List.{List, [], _∷_, _++_}
 use lib.Dec.{eqb}
-use lib.ListN.{length, take, drop, set, drop-of-length-le}
+use lib.ListN.{length, take, set, drop-of-length-le}
 use lib.Seq.{set-split}
 use borrow.Author.Tests.{eqb-true, eq-eqb}
 use Rattle.bits.proofs.Tests.{pick-cases, both-true, no-yes}
 use Rattle.codes.specs.Crcc.{octetOf, stagesAfter, crccOf, sealed}
-use Rattle.hd_packet.specs.Packet.{octetsOf, bodiesIn, packetOf}
+use Rattle.hd_packet.specs.Packet.{octetsOf, bodiesIn}
 use Rattle.hd_packet.proofs.PacketLaws.{length-octets, octets-below, length-packet}
 use Rattle.hd_lanes.proofs.RepairedLanes.{length-all}
 use Rattle.hd_write.specs.Write.{writeAnswer, packetWritten, ifWritten, wordsWritten}

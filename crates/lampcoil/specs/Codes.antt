@@ -6,7 +6,7 @@ use lib.ListN.{length}
 use Rattle.bits.specs.Pick.{pick}
 use Rattle.bits.specs.Row.{digit}
 use Rattle.codes.specs.Lane.{laneNumber, lanePlace, laneValue}
-use Rattle.codes.specs.Crcc.{stagesNumber, stagesPlace, stagesValue, stagesAfter, crccRight, sealNumber, sealPlace}
+use Rattle.codes.specs.Crcc.{stagesNumber, stagesPlace, stagesValue, crccRight, sealNumber, sealPlace}
 use Rattle.codes.specs.declared.LaneAnswer.{LaneAnswer}
 use Rattle.codes.specs.declared.StagesAnswer.{StagesAnswer}
 use Rattle.lampcoil.specs.declared.Verdict.{Verdict}

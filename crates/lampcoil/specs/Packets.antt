@@ -1,5 +1,4 @@
 -- What C receives of an HD audio data packet: document 01's number, place and values. Assumes nothing.
-use Prim.Native.Nat.{ℕ}
 use Rattle.hd_write.specs.Write.{writeNumber, writePlace}
 use Rattle.hd_write.specs.declared.WriteAnswer.{WriteAnswer}
 use Rattle.hd_read.specs.declared.ReadAnswer.{ReadAnswer}

@@ -1,6 +1,6 @@
 -- Biphase, four slots to an octet: how tables of octets write and read it. Assumes nothing.
 use mathlib.Core.Path.{_≡_, ap, _∙_}
-use mathlib.Core.Bool.{Bool, true, false, not, xor, _&&_, and-assoc}
+use mathlib.Core.Bool.{Bool, xor, _&&_, and-assoc}
 use mathlib.Core.List.{List, [], _∷_, _++_}
 use Prim.Native.Nat.{ℕ, zero, suc, _+_, _*_, _/_, _%_, _<_}
 use native.Mathlib.Nat.{div-one}

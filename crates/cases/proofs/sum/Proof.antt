@@ -1,0 +1,68 @@
+-- `cases::sum` meets its contract. The loop's invariant: the sum so far, carried on over what is left, is the whole. Assumes nothing.
+use mathlib.Core.Path.{_≡_, refl, _∙_}
+use mathlib.Core.List.{List}
+use Prim.Native.Nat.{ℕ, _+_, _-_, _≤_, _<_}
+use native.Mathlib.Numerals.{add-one}
+use native.Mathlib.Omega.{arith}
+use borrow.Author.Needs.{needs}
+use lib.ListN.{length, drop, getD, drop-of-length-le}
+use lib.Seq.{drop-cons}
+use Rattle.cases.specs.Cases.{withOctet, summed}
+use Rattle.cases.proofs.sum.Statement.{statement}
+use Rattle.cases.proofs.sum.Tie as tie
+
+abbrev Inv-loop : tie.InvT-loop
+Inv-loop octets sum₀ i₀ sum i = (i ≤ length octets) × (summed sum (drop i octets) ≡ summed 0 octets)
+
+abbrev μ-loop : tie.MeasureT-loop
+μ-loop octets sum₀ i₀ sum i = length octets - i
+
+loop-holds : tie.Need-loop-holds Inv-loop μ-loop
+loop-holds c = (search needs, refl)
+
+shared-slice-read-wide : tie.Need-shared-slice-read-wide Inv-loop μ-loop
+shared-slice-read-wide c = search needs
+
+wide-requires : tie.Need-wide-requires Inv-loop μ-loop
+wide-requires c κs = search needs
+
+with-octet-requires : tie.Need-with-octet-requires Inv-loop μ-loop
+with-octet-requires c κs = search needs
+
+add-i : tie.Need-add-i Inv-loop μ-loop
+add-i c = search needs
+
+loop-less : tie.Need-loop-less Inv-loop μ-loop
+loop-less c = search needs
+
+next-octet : (os : List ℕ) (i h : ℕ) → i < length os → summed (withOctet h (getD os i 0)) (drop (i + 1) os) ≡ summed h (drop i os)
+unfolding summed
+next-octet os i h l = rw (drop-cons os i 0 l, add-one i)
+
+loop-again : tie.Need-loop-again Inv-loop μ-loop
+loop-again c =
+    let l = c .before .before .before .before .loop in
+    let os : List ℕ = c .before .before .before .before .before .before .args .octets .now in
+    (search needs, rw (c .with-octet .ensures, c .before .wide .ensures) (next-octet os (l .i) (l .sum) (search needs) ∙ l .inv .1))
+
+returns : tie.Need-returns Inv-loop μ-loop
+unfolding summed
+returns c =
+    let l = c .before .loop in
+    let os : List ℕ = c .before .before .before .args .octets .now in
+    rw (drop-of-length-le os (c .loop-test .left)) at (l .inv .1)
+
+pub sum-spec : {M : Type 1} → statement M
+sum-spec =
+    tie.close
+    (tie.spec
+    Inv-loop
+    μ-loop
+    loop-holds
+    shared-slice-read-wide
+    wide-requires
+    with-octet-requires
+    add-i
+    loop-less
+    loop-again
+    returns)

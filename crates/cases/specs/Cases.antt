@@ -1,0 +1,29 @@
+-- Numbers that are drawn, and sums: the same in the trial programs and in the C programs under tests/second.
+use mathlib.Core.List.{List, [], _∷_}
+use Prim.Native.Nat.{ℕ, zero, suc, _+_, _*_, _/_, _%_}
+
+abbrev pub next : ℕ → ℕ
+next x = (x * 1664525 + 1013904223) % 4294967296
+
+abbrev pub octetOf : ℕ → ℕ
+octetOf x = x / 65536 % 256
+
+abbrev pub joined : ℕ → ℕ → ℕ
+joined x y = x / 65536 * 65536 + y / 65536
+
+-- n numbers on from x
+unfoldable pub after : ℕ → ℕ → ℕ
+after zero x = x
+after (suc n) x = after n (next x)
+
+-- an octet of each of the n numbers after x
+unfoldable pub drawn : ℕ → ℕ → List ℕ
+drawn zero x = []
+drawn (suc n) x = octetOf (next x) ∷ drawn n (next x)
+
+abbrev pub withOctet : ℕ → ℕ → ℕ
+withOctet sum o = (sum % 65521 * 31 + o % 256) % 65521
+
+unfoldable pub summed : ℕ → List ℕ → ℕ
+summed sum [] = sum
+summed sum (o ∷ os) = summed (withOctet sum o) os

@@ -1,0 +1,67 @@
+// What the trial programs share with the C programs under tests/second: numbers drawn one after the other, octets drawn into a
+// buffer, and the sum by which a buffer is compared.
+ghost use mathlib.Core.Path.{_≡_};
+ghost use lib.ListN.{length};
+ghost use Rattle.cases.specs.Cases.{next, octetOf, joined, drawn, after, withOctet, summed};
+
+// The number after x.
+pub fn next(x: u32) -> u32
+    ensures { λ r. ⌜ r ≡ next x ⌝ }
+{
+    ((x as u64 * 1664525 + 1013904223) % 4294967296) as u32
+}
+
+// An octet of a number: the low bits of such numbers repeat too soon.
+pub fn octet(x: u32) -> u8
+    ensures { λ r. ⌜ r ≡ octetOf x ⌝ }
+{
+    (x / 65536 % 256) as u8
+}
+
+// 32 bits, of two numbers.
+pub fn join(x: u32, y: u32) -> u32
+    ensures { λ r. ⌜ r ≡ joined x y ⌝ }
+{
+    x / 65536 * 65536 + y / 65536
+}
+
+// Draws octets from a number on, and gives the last number.
+pub fn draw(octets: &mut [u8], x: u32) -> u32
+    ensures { λ r. ⌜ r ≡ after (length (now (octets .entry))) x ⌝ }
+    ensures { λ r. ⌜ now (octets .exit) ≡ drawn (length (now (octets .entry))) x ⌝ }
+{
+    let mut x = x;
+    let mut i = 0;
+    while i < octets.len() {
+        x = next(x);
+        octets[i] = octet(x);
+        i += 1;
+    }
+    x
+}
+
+// A sum with one octet more, the lowest of a number.
+pub fn with_octet(sum: u64, o: u64) -> u64
+    ensures { λ r. ⌜ r ≡ withOctet sum o ⌝ }
+{
+    (sum % 65521 * 31 + o % 256) % 65521
+}
+
+fn wide(o: u8) -> u64
+    ensures { λ r. ⌜ r ≡ o ⌝ }
+{
+    o as u64
+}
+
+// The sum of some octets, in which each counts by its place.
+pub fn sum(octets: &[u8]) -> u64
+    ensures { λ r. ⌜ r ≡ summed 0 (now (octets .entry)) ⌝ }
+{
+    let mut sum = 0;
+    let mut i = 0;
+    while i < octets.len() {
+        sum = with_octet(sum, wide(octets[i]));
+        i += 1;
+    }
+    sum
+}
