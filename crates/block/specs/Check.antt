@@ -61,8 +61,3 @@ checked samples side =
     (first (outside samples) 0 384 (Refused 3)
     (statusChecked side))
     (Refused 1 0)
-
--- what document 01 says of an answer: number and place
-abbrev pub blockTold : BlockAnswer → ℕ × ℕ
-blockTold Sound = (0, 0)
-blockTold (Refused n p) = (n, p)

@@ -13,7 +13,7 @@ use lib.Seq.{take-at}
 use Rattle.bits.specs.Pick.{pick, first}
 use Rattle.bits.specs.Row.{even, bits, count, Below}
 use Rattle.bits.proofs.Tests.{order}
-use Rattle.bits.proofs.Beside.{first-none}
+use Rattle.bits.proofs.Places.{first-none}
 use Rattle.anc.specs.Word.{wordOf, wordRight, checkWord, wide}
 use Rattle.anc.proofs.WordLaws.{word-right}
 use Rattle.anc.proofs.SumLaws.{word-lt, check-lt}

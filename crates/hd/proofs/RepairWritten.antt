@@ -15,7 +15,7 @@ use Rattle.bits.specs.Pick.{pick, first}
 use Rattle.bits.specs.Row.{Below}
 use Rattle.bits.proofs.Tests.{both-true}
 use Rattle.bits.proofs.Firsts.{first-cases, first-hit, first-next}
-use Rattle.bits.proofs.Beside.{first-none}
+use Rattle.bits.proofs.Places.{first-none}
 use Rattle.anc.specs.Word.{wide}
 use Rattle.codes.specs.Lane.{satisfies, apart, repaired}
 use Rattle.codes.specs.declared.LaneAnswer.the-variants.{Lane}

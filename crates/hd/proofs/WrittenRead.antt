@@ -15,7 +15,8 @@ use Rattle.bits.specs.Pick.{pick, first}
 use Rattle.bits.specs.Row.{bit, Below}
 use Rattle.bits.proofs.Tests.{both-true, order, pick-cases}
 use Rattle.bits.proofs.Firsts.{first-cases}
-use Rattle.bits.proofs.Beside.{first-none, getD-map-in}
+use Rattle.bits.proofs.Beside.{getD-map-in}
+use Rattle.bits.proofs.Places.{first-none}
 use Rattle.anc.specs.Word.{wordOf, wordRight, checkWord, wide}
 use Rattle.anc.proofs.WordLaws.{right-word}
 use Rattle.codes.specs.Lane.{satisfies}

@@ -13,7 +13,7 @@ use lib.Seq.{length-take-le, getD-take, getD-drop}
 use Rattle.bits.specs.Pick.{pick, first}
 use Rattle.bits.specs.Row.{even, Below}
 use Rattle.bits.proofs.Firsts.{first-map}
-use Rattle.bits.proofs.Beside.{first-from, first-place, first-nowhere}
+use Rattle.bits.proofs.Places.{first-from, first-place, first-nowhere}
 use Rattle.anc.specs.Word.{wide, wordRight, checkWord, firstWide, firstWrong}
 use Rattle.subframe.specs.Body.{slots}
 use Rattle.subframe.proofs.BodyLaws.{count-slots}

@@ -7,7 +7,7 @@ use borrow.Author.Tests.{eq-eqb, ne-eqb, le-leb}
 use lib.ListN.{length, getD, replicate}
 use Rattle.bits.specs.Pick.{first}
 use Rattle.bits.proofs.Firsts.{first-cases, first-map}
-use Rattle.bits.proofs.Beside.{first-place, first-nowhere}
+use Rattle.bits.proofs.Places.{first-place, first-nowhere}
 use Rattle.anc.specs.Word.{wide, firstWide}
 use Rattle.hd_lanes.specs.Lanes.{hopelessAt, mendedTo, mendedOctets, lanesApart, mendAnswer, lanesDone, octetsAfter}
 use Rattle.hd_lanes.specs.declared.MendAnswer.{MendAnswer}

@@ -45,16 +45,7 @@ ifRepaired (Refused number place) new old = old
 unfoldable pub wordsRepaired : List ℕ → List ℕ → List ℕ
 wordsRepaired words old = ifRepaired (repairAnswer words (length old)) (packetRepaired words) old
 
--- ---- document 01's number, place and value of an answer
-
-abbrev pub repairNumber : RepairAnswer → ℕ
-repairNumber (Repaired lanes) = 0
-repairNumber (Refused number place) = number
-
-abbrev pub repairPlace : RepairAnswer → ℕ
-repairPlace (Repaired lanes) = 0
-repairPlace (Refused number place) = place
-
-abbrev pub repairLanes : RepairAnswer → ℕ
-repairLanes (Repaired lanes) = lanes
-repairLanes (Refused number place) = 0
+-- what document 01 says of an answer: number, place, lanes; a refusal has no lanes, and 0 stands for them
+abbrev pub repairTold : RepairAnswer → ℕ × ℕ × ℕ
+repairTold (Repaired lanes) = (0, 0, lanes)
+repairTold (Refused n p) = (n, p, 0)

@@ -14,7 +14,7 @@ use Rattle.bits.specs.Row.{even}
 use Rattle.bits.proofs.Tests.{both-true}
 use Rattle.subframe.specs.Body.{slots}
 use Rattle.subframe.proofs.BodyLaws.{count-slots}
-use Rattle.bits.proofs.Beside.{first-place, first-nowhere}
+use Rattle.bits.proofs.Places.{first-place, first-nowhere}
 use Rattle.hd_lanes.specs.Lanes.{checkOctets, withChecks}
 use Rattle.hd_lanes.proofs.CheckLaws.{length-checks}
 use Rattle.hd_packet.specs.Packet.{did, channelOctets, dataOctets}

@@ -47,12 +47,7 @@ unfoldable pub wordsWritten : ℕ → ℕ → ℕ → ℕ → ℕ → ℕ → Li
 wordsWritten group dbn phase ck12 z1 z2 bodies old =
     ifWritten (writeAnswer group dbn phase ck12 z1 z2 bodies (length old)) (packetWritten group dbn phase ck12 z1 z2 bodies) old
 
--- ---- document 01's number and place of an answer
-
-abbrev pub writeNumber : WriteAnswer → ℕ
-writeNumber Written = 0
-writeNumber (Refused number place) = number
-
-abbrev pub writePlace : WriteAnswer → ℕ
-writePlace Written = 0
-writePlace (Refused number place) = place
+-- what document 01 says of an answer: number, place
+abbrev pub writeTold : WriteAnswer → ℕ × ℕ
+writeTold Written = (0, 0)
+writeTold (Refused n p) = (n, p)

@@ -53,16 +53,7 @@ pub data Right (line : List ℕ) : Found → Type 0 where
 unfoldable pub inverted : List ℕ → List ℕ
 inverted line = map (λ o. 255 - o) line
 
--- ---- the number, the place and the position that document 01 gives an answer
-
-abbrev pub foundNumber : Found → ℕ
-foundNumber (At p) = 0
-foundNumber (Refused number place) = number
-
-abbrev pub foundPlace : Found → ℕ
-foundPlace (At p) = 0
-foundPlace (Refused number place) = place
-
-abbrev pub foundPosition : Found → ℕ
-foundPosition (At p) = p
-foundPosition (Refused number place) = 0
+-- what document 01 says of an answer: number, place, position; a refusal has no position, and 0 stands for it
+abbrev pub foundTold : Found → ℕ × ℕ × ℕ
+foundTold (At p) = (0, 0, p)
+foundTold (Refused n p) = (n, p, 0)

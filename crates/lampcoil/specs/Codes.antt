@@ -5,8 +5,8 @@ use lib.Dec.{eqb}
 use lib.ListN.{length}
 use Rattle.bits.specs.Pick.{pick}
 use Rattle.bits.specs.Row.{digit}
-use Rattle.codes.specs.Lane.{laneNumber, lanePlace, laneValue}
-use Rattle.codes.specs.Crcc.{stagesNumber, stagesPlace, stagesValue, crccRight, sealNumber, sealPlace}
+use Rattle.codes.specs.Lane.{laneTold}
+use Rattle.codes.specs.Crcc.{stagesTold, crccRight, sealNumber, sealPlace}
 use Rattle.codes.specs.declared.LaneAnswer.{LaneAnswer}
 use Rattle.codes.specs.declared.StagesAnswer.{StagesAnswer}
 use Rattle.lampcoil.specs.declared.Verdict.{Verdict}
@@ -15,10 +15,10 @@ use Rattle.lampcoil.specs.declared.Stages.{Stages}
 use Rattle.lampcoil.specs.declared.StatusCheck.{StatusCheck}
 
 abbrev pub laneAnswer : LaneAnswer → Lane
-laneAnswer a = record { number = laneNumber a; place = lanePlace a; lane = laneValue a }
+laneAnswer a = record { number = laneTold a .0; place = laneTold a .1; lane = laneTold a .2 }
 
 abbrev pub stagesAnswer : StagesAnswer → Stages
-stagesAnswer a = record { number = stagesNumber a; place = stagesPlace a; stages = stagesValue a }
+stagesAnswer a = record { number = stagesTold a .0; place = stagesTold a .1; stages = stagesTold a .2 }
 
 -- all stages 1 before the first bit
 abbrev pub startAnswer : Stages

@@ -2,12 +2,11 @@
 use Rattle.aes3.specs.Block.{writeTold, readTold}
 use Rattle.aes3.specs.declared.WriteAnswer.{WriteAnswer}
 use Rattle.aes3.specs.declared.ReadAnswer.{ReadAnswer}
-use Rattle.hunt.specs.Hunt.{foundNumber, foundPlace, foundPosition}
+use Rattle.hunt.specs.Hunt.{foundTold}
 use Rattle.hunt.specs.declared.Found.{Found}
-use Rattle.madi_write.specs.Writer.{numberOf as writtenNumber}
-use Rattle.madi_write.specs.Writer.{placeOf as writtenPlace}
+use Rattle.madi_write.specs.Writer.{writeTold as writtenTold}
 use Rattle.madi_write.specs.declared.WriteAnswer.{WriteAnswer as FrameAnswer}
-use Rattle.madi_read.specs.Reader.{numberOf, placeOf, activeOf, syncsOf}
+use Rattle.madi_read.specs.Reader.{readTold as frameTold}
 use Rattle.madi_read.specs.declared.ReadAnswer.{ReadAnswer as FrameReadAnswer}
 use Rattle.lampcoil.specs.declared.Verdict.{Verdict}
 use Rattle.lampcoil.specs.declared.BlockRead.{BlockRead}
@@ -23,12 +22,12 @@ abbrev pub blockRead : ReadAnswer → BlockRead
 blockRead a = record { number = readTold a .0; place = readTold a .1; «crcc_a» = readTold a .2; «crcc_b» = readTold a .3 }
 
 abbrev pub startFound : Found → BlockStart
-startFound a = record { number = foundNumber a; place = foundPlace a; position = foundPosition a }
+startFound a = record { number = foundTold a .0; place = foundTold a .1; position = foundTold a .2 }
 
 -- ---- MADI
 
 abbrev pub frameWritten : FrameAnswer → Verdict
-frameWritten a = record { number = writtenNumber a; place = writtenPlace a }
+frameWritten a = record { number = writtenTold a .0; place = writtenTold a .1 }
 
 abbrev pub frameRead : FrameReadAnswer → FrameRead
-frameRead a = record { number = numberOf a; place = placeOf a; active = activeOf a; syncs = syncsOf a }
+frameRead a = record { number = frameTold a .0; place = frameTold a .1; active = frameTold a .2; syncs = frameTold a .3 }

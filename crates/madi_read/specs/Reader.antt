@@ -121,19 +121,7 @@ abbrev pub wordsOf : Reading → List ℕ → List ℕ
 wordsOf (taken active s words) old = words
 wordsOf (refused number place) old = old
 
--- document 01's number and place of an answer, and its active and sync count
-abbrev pub numberOf : ReadAnswer → ℕ
-numberOf (Read active s) = 0
-numberOf (Refused number place) = number
-
-abbrev pub placeOf : ReadAnswer → ℕ
-placeOf (Read active s) = 0
-placeOf (Refused number place) = place
-
-abbrev pub activeOf : ReadAnswer → ℕ
-activeOf (Read active s) = active
-activeOf (Refused number place) = 0
-
-abbrev pub syncsOf : ReadAnswer → ℕ
-syncsOf (Read active s) = s
-syncsOf (Refused number place) = 0
+-- what document 01 says of an answer: number, place, active count, sync count; a refusal has no counts, and 0 stands for them
+abbrev pub readTold : ReadAnswer → ℕ × ℕ × ℕ × ℕ
+readTold (Read active s) = (0, 0, active, s)
+readTold (Refused n p) = (n, p, 0, 0)

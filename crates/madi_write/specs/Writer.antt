@@ -70,11 +70,7 @@ writtenBy (Refused number place) channels words syncs level old = old
 abbrev pub written : ℕ → List ℕ → ℕ → ℕ → List ℕ → List ℕ
 written channels words syncs level old = writtenBy (writeAnswer channels words syncs level (length old)) channels words syncs level old
 
--- document 01's number and place of an answer
-abbrev pub numberOf : WriteAnswer → ℕ
-numberOf Written = 0
-numberOf (Refused number place) = number
-
-abbrev pub placeOf : WriteAnswer → ℕ
-placeOf Written = 0
-placeOf (Refused number place) = place
+-- what document 01 says of an answer: number, place
+abbrev pub writeTold : WriteAnswer → ℕ × ℕ
+writeTold Written = (0, 0)
+writeTold (Refused n p) = (n, p)

@@ -9,7 +9,7 @@ use lib.Dec.{ltb}
 use lib.IntN.{ℤ}
 use lib.ListN.{length}
 use Rattle.bits.specs.Pick.{pick, first}
-use Rattle.bits.proofs.Places.{first-place}
+use Rattle.bits.proofs.Places.{first-where}
 use Rattle.subframe.specs.Side.{sideLength}
 use Rattle.block.specs.Check.{outside, statusChecked, checked}
 use Rattle.block.specs.declared.BlockAnswer.the-variants.{Refused}
@@ -22,7 +22,7 @@ module _ (s : List ℤ) (t : List ℕ) (i : ℕ) (ns : length s ≡ 384) (nt : l
   unfolding checked
   by-place =
       rw (eq-eqb (length s) 384 ns, eq-eqb (length t) sideLength nt, is)
-      (first-place (outside s) (Refused 3) (statusChecked t) 384 0 384 (omega arith))
+      (first-where (outside s) (Refused 3) (statusChecked t) 384 0 384 (omega arith))
 
   found : i < 384 → checked s t ≡ Refused 3 i
   found h = by-place ∙ rw (lt-ltb i 384 h)

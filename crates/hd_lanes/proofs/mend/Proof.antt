@@ -13,7 +13,7 @@ use lib.Bits.{bitXor}
 use Rattle.bits.specs.Pick.{first}
 use Rattle.bits.specs.Row.{digit, Below}
 use Rattle.bits.proofs.Firsts.{first-hit, first-next, first-miss}
-use Rattle.bits.proofs.Beside.{first-none}
+use Rattle.bits.proofs.Places.{first-none}
 use Rattle.codes.specs.Lane.{repaired}
 use Rattle.codes.specs.declared.LaneAnswer.{LaneAnswer}
 use Rattle.codes.specs.declared.LaneAnswer.the-variants.{Lane}
