@@ -31,7 +31,30 @@ alignment-code-requires c κs = search needs
 
 returns : tie.Need-returns
 unfolding codesBy
-returns c = cc
+returns c =
+    let length = c .before in
+    let auxiliary = length .before in
+    let user = auxiliary .before in
+    let mode = user .before in
+    let rate = mode .before in
+    let lock = rate .before in
+    let emphasis = lock .before in
+    rw (
+      c .alignment-code .ensures .0,
+      c .alignment-code .ensures .1,
+      length .length-code .ensures .0,
+      length .length-code .ensures .1,
+      auxiliary .auxiliary-code .ensures .0,
+      auxiliary .auxiliary-code .ensures .1,
+      user .user-code .ensures .0,
+      user .user-code .ensures .1,
+      mode .mode-code .ensures .0,
+      mode .mode-code .ensures .1,
+      rate .rate-code .ensures,
+      lock .lock-code .ensures,
+      emphasis .emphasis-code .ensures .0,
+      emphasis .emphasis-code .ensures .1,
+    )
 
 pub codes-by-spec : {M : Type 1} → statement M
 codes-by-spec =

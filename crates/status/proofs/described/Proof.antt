@@ -33,8 +33,26 @@ alignment-of-requires c κs = search needs
 returns : tie.Need-returns
 unfolding describedBy
 returns c =
-    let a = c .before .before .before .before .before .before .before .before .args in
-    cc (div-one (a .byte1), div-one (a .byte2))
+    let length = c .before in
+    let user = length .before in
+    let mode = user .before in
+    let rate = mode .before in
+    let lock = rate .before in
+    let emphasis = lock .before in
+    let auxiliary = emphasis .before in
+    let bytes = auxiliary .before .args in
+    rw (
+      c .alignment-of .ensures,
+      length .length-of .ensures,
+      user .user-of .ensures,
+      mode .mode-of .ensures,
+      rate .rate-of .ensures,
+      lock .lock-of .ensures,
+      emphasis .emphasis-of .ensures,
+      auxiliary .auxiliary-of .ensures,
+      div-one (bytes .byte1),
+      div-one (bytes .byte2),
+    )
 
 pub described-spec : {M : Type 1} → statement M
 described-spec =

@@ -1,7 +1,9 @@
 -- `status::meaning_codes` meets its contract, by the cases of the meaning.
 -- Assumes nothing.
+use mathlib.Core.Path.{sym, ap, _∙_}
 use borrow.Author.Needs.{needs}
 use Rattle.status.specs.Numbers.{codesOf}
+use Rattle.status.specs.declared.Use.the-variants.{Professional}
 use Rattle.status.proofs.meaning_codes.Statement.{statement}
 use Rattle.status.proofs.meaning_codes.Tie as tie
 
@@ -31,15 +33,21 @@ codes-by-requires-2 c κs = search needs
 
 returns : tie.Need-returns
 unfolding codesOf
-returns c = cc
+returns c = c .consumer .ensures ∙ ap codesOf (sym (c .before .enum-told .given .1) ∙ c .before .before .before .meaning .ensures)
 
 returns-2 : tie.Need-returns-2
 unfolding codesOf
-returns-2 c = cc
+returns-2 c =
+    let m = c .before .before .before .before .before in
+    c .codes-by .ensures
+    ∙ ap codesOf (sym (m .audio .given .1 ∙ ap Professional (c .before .before .audio2 .given .1)) ∙ m .before .before .meaning .ensures)
 
 returns-3 : tie.Need-returns-3
 unfolding codesOf
-returns-3 c = cc
+returns-3 c =
+    let m = c .before .before .before .before .before in
+    c .codes-by2 .ensures
+    ∙ ap codesOf (sym (m .audio .given .1 ∙ ap Professional (c .before .before .audio3 .given .1)) ∙ m .before .before .meaning .ensures)
 
 pub meaning-codes-spec : {M : Type 1} → statement M
 meaning-codes-spec =
