@@ -1,84 +1,72 @@
-/* The report program by hand: what the report program prints for the records on standard input, as quick as C goes. */
+/* The report program by hand: what the report program prints for the records on standard input, as quick as C goes, and as it does:
+   one record at a time, each line written when it is told. */
 #define _POSIX_C_SOURCE 200809L
 #include "hand.h"
 #include <string.h>
 #include <unistd.h>
 
-enum { MOST = 8192, ROOM = 65536 };
+enum { MOST = 8192, ROOM = 128 };
 
-static uint8_t in[ROOM];
-static size_t in_at, in_end;
-static char out[ROOM];
-static size_t out_end;
+static uint8_t body[MOST];
+static char line[ROOM];
 
-/* Up to n octets of input at *p, in one piece; fewer only at the end of input. */
-static size_t take(size_t n, const uint8_t **p)
+/* Reads n octets, fewer only at the end of input. */
+static size_t take(uint8_t *p, size_t n)
 {
-    if (in_end - in_at < n) {
-        memmove(in, in + in_at, in_end - in_at);
-        in_end -= in_at;
-        in_at = 0;
-        while (in_end < n) {
-            ssize_t got = read(0, in + in_end, sizeof in - in_end);
-            if (got <= 0)
-                break;
-            in_end += (size_t)got;
-        }
+    size_t got = 0;
+    while (got < n) {
+        ssize_t more = read(0, p + got, n - got);
+        if (more <= 0)
+            break;
+        got += (size_t)more;
     }
-    if (in_end - in_at < n)
-        n = in_end - in_at;
-    *p = in + in_at;
-    in_at += n;
-    return n;
+    return got;
 }
 
-static void flush(void)
+/* Writes the line from t on to the end of its buffer. */
+static void tell(const char *t)
 {
-    for (size_t at = 0; at < out_end;) {
-        ssize_t put = write(1, out + at, out_end - at);
+    while (t < line + ROOM) {
+        ssize_t put = write(1, t, (size_t)(line + ROOM - t));
         if (put <= 0)
-            _exit(1);
-        at += (size_t)put;
+            break;
+        t += put;
     }
-    out_end = 0;
 }
 
-static void text(const char *t)
-{
-    size_t n = strlen(t);
-    memcpy(out + out_end, t, n);
-    out_end += n;
-}
+/* Both put a text before t, and give its start: a line is made from its end. */
+static char *text(char *t, const char *words, size_t n) { return memcpy(t - n, words, n); }
 
-static void number(unsigned long x)
+static char *number(char *t, unsigned long x)
 {
-    char digits[20];
-    int n = 0;
     do
-        digits[n++] = (char)('0' + x % 10);
+        *--t = (char)('0' + x % 10);
     while ((x /= 10) != 0);
-    while (n > 0)
-        out[out_end++] = digits[--n];
+    return t;
 }
 
-static void report_line(unsigned long n, const char *what, unsigned long a, unsigned long b)
+static void report_line(unsigned long n, const char *words, size_t length, uint32_t a, uint32_t b)
 {
-    if (out_end > sizeof out - 100)
-        flush();
-    number(n);
-    text(what);
-    number(a);
-    text(" ");
-    number(b);
-    text("\n");
+    char *t = line + ROOM;
+    *--t = '\n';
+    t = number(t, b);
+    *--t = ' ';
+    t = number(t, a);
+    t = text(t, words, length);
+    tell(number(t, n));
 }
+
+static void report_refused(unsigned long n, uint32_t number, uint32_t place) { report_line(n, " refused ", 9, number, place); }
 
 static void report_aes3(unsigned long n, const uint8_t *p, size_t length)
 {
     static int32_t samples[384];
     static uint8_t side[144];
     lampcoil_aes3_read_answer r = hand_aes3_read(p, length, samples, 384, side, 144);
-    report_line(n, r.number ? " refused " : " aes3 ok ", r.number ? r.number : r.crcc_a, r.number ? r.place : r.crcc_b);
+    if (r.number)
+        report_refused(n, r.number, r.place);
+    else
+        report_line(n, " aes3 ok ", 9, r.crcc_a, r.crcc_b);
 }
 
 static void report_hd(unsigned long n, const uint8_t *p, size_t length)
@@ -86,30 +74,36 @@ static void report_hd(unsigned long n, const uint8_t *p, size_t length)
     uint16_t words[31];
     uint32_t bodies[4];
     if (length != 62) {
-        report_line(n, " refused ", 1, 0);
+        report_refused(n, 1, 0);
         return;
     }
     for (int w = 0; w < 31; w++)
         words[w] = (uint16_t)(p[2 * w] << 8 | p[2 * w + 1]);
     lampcoil_hd_read_answer r = hand_hd_read(words, 31, bodies, 4);
-    report_line(n, r.number ? " refused " : " hd ok ", r.number ? r.number : r.group, r.number ? r.place : r.dbn);
+    if (r.number)
+        report_refused(n, r.number, r.place);
+    else
+        report_line(n, " hd ok ", 7, r.group, r.dbn);
 }
 
 static void report_madi(unsigned long n, const uint8_t *p, size_t length)
 {
     uint32_t words[256];
     if (length < 4) {
-        report_line(n, " refused ", 1, 0);
+        report_refused(n, 1, 0);
         return;
     }
     lampcoil_madi_read_answer r = hand_madi_read(p[0], p[1], (uint32_t)p[2] << 8 | p[3], p + 4, length - 4, words, p[0]);
-    report_line(n, r.number ? " refused " : " madi ok ", r.number ? r.number : r.active, r.number ? r.place : r.syncs);
+    if (r.number)
+        report_refused(n, r.number, r.place);
+    else
+        report_line(n, " madi ok ", 9, r.active, r.syncs);
 }
 
 static void report(unsigned long n, const uint8_t *p, size_t length)
 {
     if (length < 2 || p[0] != 1 || p[1] - 1u > 2)
-        report_line(n, " refused ", 2, 0);
+        report_refused(n, 2, 0);
     else if (p[1] == 1)
         report_aes3(n, p + 2, length - 2);
     else if (p[1] == 2)
@@ -121,28 +115,25 @@ static void report(unsigned long n, const uint8_t *p, size_t length)
 int main(void)
 {
     unsigned long n = 0;
-    const uint8_t *p;
+    uint8_t head[4];
     hand_init_aes3();
     hand_init_madi();
     hand_init_hd();
-    text("carrier report 1\n");
-    for (size_t got; (got = take(4, &p)) != 0;) {
-        size_t length = got < 4 ? 0 : (size_t)p[0] << 24 | (size_t)p[1] << 16 | (size_t)p[2] << 8 | p[3];
-        if (length > MOST) {
-            report_line(++n, " refused ", 2, 0);
+    tell(text(line + ROOM, "carrier report 1\n", 17));
+    for (size_t got; (got = take(head, 4)) != 0;) {
+        size_t length = (size_t)head[0] << 24 | (size_t)head[1] << 16 | (size_t)head[2] << 8 | head[3];
+        if (got == 4 && length > MOST) {
+            report_refused(++n, 2, 0);
             break;
         }
-        if (got < 4 || take(length, &p) < length) {
-            text("cut\n");
+        if (got < 4 || take(body, length) < length) {
+            tell(text(line + ROOM, "cut\n", 4));
             break;
         }
-        report(++n, p, length);
+        report(++n, body, length);
     }
-    if (out_end > sizeof out - 100)
-        flush();
-    text("records ");
-    number(n);
-    text("\n");
-    flush();
+    char *t = line + ROOM;
+    *--t = '\n';
+    tell(text(number(t, n), "records ", 8));
     return 0;
 }

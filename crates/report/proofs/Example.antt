@@ -3,8 +3,8 @@ use mathlib.Core.Path.{_≡_, refl}
 use mathlib.Core.List.{List, [], _∷_}
 use Prim.Native.Nat.{ℕ}
 use Rattle.records.specs.Record.{packetOutcome, byKind, judged}
-use Rattle.report.specs.Text.{digits, decimal, pairText, lineOf, countLine}
-use Rattle.report.specs.Report.{sizeOf, ending, going, told, toldOn, reportOf}
+use Rattle.report.specs.Text.{digits, decimal, pairText, outcomeText, lineOf, countLine}
+use Rattle.report.specs.Report.{sizeOf, reportOn, reportOf}
 
 -- carrier report 1 / 1 refused 1 0 / records 1
 abbrev pub printed : List ℕ
@@ -14,5 +14,5 @@ printed =
     ∷ 114 ∷ 101 ∷ 99 ∷ 111 ∷ 114 ∷ 100 ∷ 115 ∷ 32 ∷ 49 ∷ 10 ∷ []
 
 pub example : reportOf (0 ∷ 0 ∷ 0 ∷ 4 ∷ 1 ∷ 2 ∷ 0 ∷ 0 ∷ []) ≡ printed
-unfolding reportOf toldOn told ending going sizeOf lineOf pairText countLine decimal digits judged byKind packetOutcome
+unfolding reportOf reportOn sizeOf lineOf outcomeText pairText countLine decimal digits judged byKind packetOutcome
 example = refl

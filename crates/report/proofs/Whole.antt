@@ -1,39 +1,22 @@
--- The report as a whole: each step that is not the last takes one record off the input, the count line always ends the report, and
--- 8,196 octets at hand are enough for a step. Assumes nothing.
-use mathlib.Core.Path.{_≡_, refl, sym, ap, ap₂, _∙_}
-use mathlib.Core.Bool.{Bool, true, false, not}
-use mathlib.Core.List.{List, [], _∷_, _++_, append-assoc, append-nil}
-use Prim.Native.Nat.{ℕ, zero, suc, _+_, _-_, _^_, _≤_, _<_}
+-- The report as a whole: the count line always ends it, and going record by record, as the program does, gives it. What a caller of the
+-- steps goes on with. Assumes nothing.
+use mathlib.Core.Path.{_≡_, refl, sym, ap, _∙_}
+use mathlib.Core.Bool.{true, false}
+use mathlib.Core.List.{List, [], _++_, append-assoc, append-nil}
+use Prim.Native.Nat.{ℕ, zero, suc, _+_, _-_, _^_, _≤_, _<_, min}
 use native.Mathlib.Omega.{arith}
 use borrow.Author.Tests.{eqb-true, eqb-false, ltb-true, ltb-false}
 use lib.Dec.{eqb, ltb}
-use lib.ListN.{length, getD, take, drop, length-take, length-drop, length-append, List·getD-append}
-use lib.Seq.{take-append-le, drop-append-le}
-use Rattle.bits.specs.Pick.{pick}
+use lib.ListN.{length, take, drop, length-take, length-drop}
+use lib.Seq.{getD-take}
 use Rattle.bits.proofs.Tests.{pick-cases, no-yes}
 use Rattle.records.specs.Record.{judged}
 use Rattle.records.specs.declared.Outcome.the-variants.{Refused}
 use Rattle.report.specs.Text.{heading, cut, lineOf, countLine}
-use Rattle.report.specs.Report.{Told, sizeOf, ending, going, told, toldOn, reportOf}
-use Rattle.report.specs.Inner.{stepTold}
+use Rattle.report.specs.Report.{Told, sizeOf, reportOn, reportOf, toRead, ending, going, told, headOf, bodyOf, walkOn, walked}
+use Rattle.report.specs.Inner.{stepOf}
 use Rattle.report.specs.declared.Step.{Step}
-use Rattle.report.proofs.Steps.{told-full, told-long, told-record}
-
--- ---- a step is the last, with the count line at its end, or takes one record
-
-pub data Kind (n : ℕ) (input : List ℕ) : Told → Type 0 where
-  ended : (m : ℕ) (text : List ℕ) → Kind n input (ending m text)
-  record-taken : (used : ℕ) (text : List ℕ) → 4 ≤ used → used ≤ length input → Kind n input (going (n + 1) used text)
-
-pub kind : (n : ℕ) (input : List ℕ) → Kind n input (told n input)
-unfolding told
-kind n input =
-    pick-cases (Kind n input) (eqb (length input) 0) _ _ (λ t. ended n [])
-    (λ f. pick-cases (Kind n input) (eqb n (2 ^ 64 - 1)) _ _ (λ t. ended n [])
-    (λ g. pick-cases (Kind n input) (ltb (length input) 4) _ _ (λ t. ended n cut)
-    (λ h. pick-cases (Kind n input) (ltb 8192 (sizeOf input)) _ _ (λ t. ended (n + 1) (lineOf (n + 1) (Refused 2 0)))
-    (λ i. pick-cases (Kind n input) (ltb (length input - 4) (sizeOf input)) _ _ (λ t. ended n cut)
-    (λ j. record-taken (4 + sizeOf input) _ (omega arith) (omega (arith, ltb-false (length input) 4 h, ltb-false (length input - 4) (sizeOf input) j)))))))
+use Rattle.report.proofs.Steps.{read-all, told-empty, told-header, told-long, told-cut, told-record}
 
 -- ---- the count line always ends the report
 
@@ -42,112 +25,163 @@ pub record Counted (text : List ℕ) : Type 0 where
   pub records : ℕ
   pub ends : text ≡ lines ++ countLine records
 
-counted-step : (steps n : ℕ) (input : List ℕ) → length input < suc steps
-    → ((rest : List ℕ) → length rest < steps → Counted (toldOn steps (n + 1) rest)) → (t : Told) → Kind n input t
-    → Counted (t .text ++ pick (t .last) [] (toldOn steps (t .records) (drop (t .used) input)))
-unfolding ending going
-counted-step steps n input h on t (ended m text) = record { lines = text; records = m; ends = append-nil (text ++ countLine m) }
-counted-step steps n input h on t (record-taken used text l u) =
-    let c = on (drop used input) (omega (arith, length-drop used input)) in
+ended : (lines : List ℕ) (n : ℕ) → Counted (lines ++ countLine n)
+ended lines n = record { lines = lines; records = n; ends = refl }
+
+behind : (text : List ℕ) {rest : List ℕ} → Counted rest → Counted (text ++ rest)
+behind text c =
     record {
       lines = text ++ c .lines;
       records = c .records;
       ends = ap (λ (r : List ℕ). text ++ r) (c .ends) ∙ sym (append-assoc text (c .lines) (countLine (c .records)));
     }
 
-counted-on : (steps n : ℕ) (input : List ℕ) → length input < steps → Counted (toldOn steps n input)
-unfolding toldOn
+counted-on : (most n : ℕ) (input : List ℕ) → length input < most → Counted (reportOn most n input)
+unfolding reportOn
 counted-on zero n input h = absurd (omega arith)
-counted-on (suc steps) n input h =
-    counted-step steps n input h (λ rest l. counted-on steps (n + 1) rest l) (told n input) (kind n input)
+counted-on (suc most) n input h =
+    pick-cases Counted (eqb (length input) 0) _ _ (λ t. ended [] n)
+    (λ f. pick-cases Counted (ltb (length input) 4) _ _ (λ t. ended cut n)
+    (λ g. pick-cases Counted (ltb 8192 (sizeOf input)) _ _ (λ t. ended (lineOf (n + 1) (Refused 2 0)) (n + 1))
+    (λ i. pick-cases Counted (ltb (length input - 4) (sizeOf input)) _ _ (λ t. ended cut n)
+    (λ j. behind (lineOf (n + 1) (judged (take (sizeOf input) (drop 4 input))))
+    (counted-on most (n + 1) (drop (4 + sizeOf input) input)
+    (omega (arith, ltb-false (length input) 4 g, length-drop (4 + sizeOf input) input)))))))
 
 pub count-ends : (input : List ℕ) → Counted (reportOf input)
 unfolding reportOf
-count-ends input =
-    let c = counted-on (suc (length input)) 0 input (omega arith) in
-    record {
-      lines = heading ++ c .lines;
-      records = c .records;
-      ends = ap (λ (r : List ℕ). heading ++ r) (c .ends) ∙ sym (append-assoc heading (c .lines) (countLine (c .records)));
-    }
+count-ends input = behind heading (counted-on (suc (length input)) 0 input (omega arith))
+
+-- ---- record by record
+
+walk-none : (n : ℕ) (input : List ℕ) → walkOn 0 n input ≡ []
+unfolding walkOn
+walk-none n input = refl
+
+module _ (most n : ℕ) (input : List ℕ) where
+  walk-ends : (m : ℕ) (text : List ℕ) → told n (headOf input) (bodyOf input) ≡ ending m text → walkOn (suc most) n input ≡ text ++ countLine m
+  unfolding walkOn ending
+  walk-ends m text e = rw e (append-nil (text ++ countLine m))
+
+  walk-goes : (m k : ℕ) (text : List ℕ) → told n (headOf input) (bodyOf input) ≡ going m text → toRead (headOf input) ≡ k
+      → walkOn (suc most) n input ≡ text ++ walkOn most m (drop (4 + k) input)
+  unfolding walkOn going
+  walk-goes m k text e r = rw (e, r) refl
+
+-- a header gives the length that stands first
+size-front : (input : List ℕ) → sizeOf (take 4 input) ≡ sizeOf input
+unfolding sizeOf
+size-front input =
+    rw (
+      getD-take 4 input 0 0 (omega arith),
+      getD-take 4 input 1 0 (omega arith),
+      getD-take 4 input 2 0 (omega arith),
+      getD-take 4 input 3 0 (omega arith),
+    )
+
+-- what is told of the front of an input, where the count has room for the octets that are left
+module _ (n : ℕ) (input : List ℕ) (room : n + length input < 2 ^ 64) where
+  front : length (headOf input) ≡ min 4 (length input)
+  front = length-take 4 input
+
+  front-empty : length input ≡ 0 → told n (headOf input) (bodyOf input) ≡ ending n []
+  front-empty e = told-empty n (headOf input) (bodyOf input) (omega (arith, front))
+
+  module _ (some : length input ≡ 0 → ⊥) where
+    full : n ≡ 2 ^ 64 - 1 → ⊥
+    full e = some (omega arith)
+
+    headed : length (headOf input) ≡ 0 → ⊥
+    headed e = some (omega (arith, front))
+
+    front-cut : length input < 4 → told n (headOf input) (bodyOf input) ≡ ending n cut
+    front-cut l = told-header n (headOf input) (bodyOf input) headed full (omega (arith, front))
+
+    module _ (header : 4 ≤ length input) where
+      whole : 4 ≤ length (headOf input)
+      whole = omega (arith, front)
+
+      size : sizeOf input ≡ sizeOf (headOf input)
+      size = sym (size-front input)
+
+      front-long : 8192 < sizeOf input → told n (headOf input) (bodyOf input) ≡ ending (n + 1) (lineOf (n + 1) (Refused 2 0))
+      front-long l = told-long n (headOf input) (bodyOf input) headed full whole size l
+
+      module _ (most : sizeOf input ≤ 8192) where
+        front-reads : toRead (headOf input) ≡ sizeOf input
+        front-reads = read-all (headOf input) whole size most
+
+        body-is : bodyOf input ≡ take (sizeOf input) (drop 4 input)
+        body-is = ap (λ (k : ℕ). take k (drop 4 input)) front-reads
+
+        body-length : length (bodyOf input) ≡ min (sizeOf input) (length input - 4)
+        body-length = ap length body-is ∙ length-take (sizeOf input) (drop 4 input) ∙ ap (min (sizeOf input)) (length-drop 4 input)
+
+        front-body-cut : length input - 4 < sizeOf input → told n (headOf input) (bodyOf input) ≡ ending n cut
+        front-body-cut l =
+            told-cut n (headOf input) (bodyOf input) headed full whole size most (omega (arith, body-length))
+
+        front-record : sizeOf input ≤ length input - 4
+            → told n (headOf input) (bodyOf input) ≡ going (n + 1) (lineOf (n + 1) (judged (take (sizeOf input) (drop 4 input))))
+        front-record l =
+            told-record n (headOf input) (bodyOf input) headed full whole size most (omega (arith, body-length))
+            ∙ ap (λ (body : List ℕ). going (n + 1) (lineOf (n + 1) (judged body))) body-is
+
+-- a step of the walk is one of the report
+walk-on : (most n : ℕ) (input : List ℕ) → n + length input < 2 ^ 64 → walkOn most n input ≡ reportOn most n input
+unfolding reportOn
+walk-on zero n input h = walk-none n input
+walk-on (suc most) n input h =
+    let Is : List ℕ → Type 0 = λ r. walkOn (suc most) n input ≡ r in
+    pick-cases Is (eqb (length input) 0) _ _ (λ t. walk-ends most n input n [] (front-empty n input h (eqb-true (length input) 0 t)))
+    (λ f. let some = eqb-false (length input) 0 f in
+    pick-cases Is (ltb (length input) 4) _ _ (λ t. walk-ends most n input n cut (front-cut n input h some (ltb-true (length input) 4 t)))
+    (λ g. let header = ltb-false (length input) 4 g in
+    pick-cases Is (ltb 8192 (sizeOf input)) _ _
+    (λ t. walk-ends most n input (n + 1) (lineOf (n + 1) (Refused 2 0)) (front-long n input h some header (ltb-true 8192 (sizeOf input) t)))
+    (λ i. let short = ltb-false 8192 (sizeOf input) i in
+    pick-cases Is (ltb (length input - 4) (sizeOf input)) _ _
+    (λ t. walk-ends most n input n cut (front-body-cut n input h some header short (ltb-true (length input - 4) (sizeOf input) t)))
+    (λ j. let line = lineOf (n + 1) (judged (take (sizeOf input) (drop 4 input))) in
+    walk-goes most n input (n + 1) (sizeOf input) line
+    (front-record n input h some header short (ltb-false (length input - 4) (sizeOf input) j)) (front-reads n input h some header short)
+    ∙ ap (λ (r : List ℕ). line ++ r) (walk-on most (n + 1) (drop (4 + sizeOf input) input) (omega (arith, header, length-drop (4 + sizeOf input) input)))))))
+
+pub walked-is : (input : List ℕ) → length input < 2 ^ 64 → walked input ≡ reportOf input
+unfolding walked reportOf
+walked-is input h = ap (λ (r : List ℕ). heading ++ r) (walk-on (suc (length input)) 0 input (omega arith))
 
 -- ---- what a caller goes on with
 
-pub step-on : (s : Step) (n : ℕ) (input : List ℕ) → stepTold s ≡ told n input → s .last ≡ false
-    → (s .records ≡ n + 1) × (4 ≤ s .used) × (s .used ≤ length input)
-unfolding ending going
-step-on s n input e f = go (told n input) (kind n input) e
-  where
-    go : (t : Told) → Kind n input t → stepTold s ≡ t → (s .records ≡ n + 1) × (4 ≤ s .used) × (s .used ≤ length input)
-    go t (ended m text) e′ = no-yes (s .last) f (ap (λ (u : Told). u .last) e′)
-    go t (record-taken used text l u) e′ =
-        let same : s .used ≡ used = ap (λ (v : Told). v .used) e′ in
-        (ap (λ (v : Told). v .records) e′, omega arith, omega arith)
+-- no record is longer than 8,192 octets
+pub read-fits : (head : List ℕ) → toRead head ≤ 8192
+unfolding toRead
+read-fits head =
+    pick-cases (λ (k : ℕ). k ≤ 8192) (ltb (length head) 4) _ _ (λ t. omega arith)
+    (λ f. pick-cases (λ (k : ℕ). k ≤ 8192) (ltb 8192 (sizeOf head)) _ _ (λ t. omega arith) (λ g. ltb-false 8192 (sizeOf head) g))
 
--- the same of a part of a buffer
-pub step-in : (s : Step) (n : ℕ) (buf : List ℕ) (from to : ℕ) → stepTold s ≡ told n (take (to - from) (drop from buf)) → s .last ≡ false
-    → (s .records ≡ n + 1) × (s .used ≤ to - from)
-step-in s n buf from to e f =
-    let o = step-on s n (take (to - from) (drop from buf)) e f in
-    (o .0, omega (arith, o .2, length-take (to - from) (drop from buf)))
+-- each step but the last counts a record
+abbrev Counts : ℕ → Told → Type 0
+Counts n t = t .last ≡ false → t .records ≡ n + 1
 
--- how many steps there may still be, the last step included: each of the others counts a record
-abbrev pub stepsLeft : Bool → ℕ → ℕ
-stepsLeft true n = 0
-stepsLeft false n = suc (2 ^ 64 - 1 - n)
+no-more : (n m : ℕ) (text : List ℕ) → Counts n (ending m text)
+unfolding ending
+no-more n m text e = no-yes true e refl
 
-pub fewer : (before after : Bool) (n m : ℕ) → not before ≡ true → (after ≡ false → m ≡ n + 1) → m ≤ 2 ^ 64 - 1
-    → stepsLeft after m < stepsLeft before n
-fewer true after n m t on h = no-yes false refl t
-fewer false true n m t on h = omega arith
-fewer false false n m t on h = omega (arith, on refl)
+one-more : (n : ℕ) (text : List ℕ) → Counts n (going (n + 1) text)
+unfolding going
+one-more n text e = refl
 
--- ---- 8,196 octets at hand are enough
+counts : (n : ℕ) (head body : List ℕ) → Counts n (told n head body)
+unfolding told
+counts n head body =
+    pick-cases (Counts n) (eqb (length head) 0) _ _ (λ t. no-more n n [])
+    (λ f. pick-cases (Counts n) (eqb n (2 ^ 64 - 1)) _ _ (λ t. no-more n n [])
+    (λ g. pick-cases (Counts n) (ltb (length head) 4) _ _ (λ t. no-more n n cut)
+    (λ h. pick-cases (Counts n) (ltb 8192 (sizeOf head)) _ _ (λ t. no-more n (n + 1) (lineOf (n + 1) (Refused 2 0)))
+    (λ i. pick-cases (Counts n) (ltb (length body) (sizeOf head)) _ _ (λ t. no-more n n cut) (λ j. one-more n (lineOf (n + 1) (judged body)))))))
 
-size-front : (a b : List ℕ) → 4 ≤ length a → sizeOf (a ++ b) ≡ sizeOf a
-unfolding sizeOf
-size-front a b h =
-    rw (
-      List·getD-append a b 0 0 (omega arith),
-      List·getD-append a b 0 1 (omega arith),
-      List·getD-append a b 0 2 (omega arith),
-      List·getD-append a b 0 3 (omega arith),
-    )
-
-pub enough : (n : ℕ) (a b : List ℕ) → 8196 ≤ length a → told n (a ++ b) ≡ told n a
-enough n a b h = by-count (eqb n (2 ^ 64 - 1)) refl
-  where
-    more : length (a ++ b) ≡ length a + length b
-    more = length-append a b
-
-    some : (input : List ℕ) → 8196 ≤ length input → length input ≡ 0 → ⊥
-    some input l e = omega arith
-
-    longer : 8196 ≤ length (a ++ b)
-    longer = omega (arith, more)
-
-    size : sizeOf (a ++ b) ≡ sizeOf a
-    size = size-front a b (omega arith)
-
-    octets : sizeOf a ≤ 8192 → take (sizeOf a) (drop 4 (a ++ b)) ≡ take (sizeOf a) (drop 4 a)
-    octets l =
-        ap (take (sizeOf a)) (drop-append-le 4 a b (omega arith))
-        ∙ take-append-le (sizeOf a) (drop 4 a) b (omega (arith, length-drop 4 a))
-
-    by-size : (n ≡ 2 ^ 64 - 1 → ⊥) → (t : Bool) → ltb 8192 (sizeOf a) ≡ t → told n (a ++ b) ≡ told n a
-    by-size room true e =
-        let l : 8192 < sizeOf a = ltb-true 8192 (sizeOf a) e in
-        told-long n (a ++ b) (some (a ++ b) longer) room (omega (arith, longer)) (rw size l)
-        ∙ sym (told-long n a (some a h) room (omega arith) l)
-    by-size room false e =
-        let l : sizeOf a ≤ 8192 = ltb-false 8192 (sizeOf a) e in
-        told-record n (a ++ b) (some (a ++ b) longer) room (omega (arith, longer)) (rw size l) (omega (arith, longer, size))
-        ∙ ap₂ (λ (z : ℕ) (body : List ℕ). going (n + 1) (4 + z) (lineOf (n + 1) (judged body))) size
-        (ap (λ (z : ℕ). take z (drop 4 (a ++ b))) size ∙ octets l)
-        ∙ sym (told-record n a (some a h) room (omega arith) l (omega arith))
-
-    by-count : (t : Bool) → eqb n (2 ^ 64 - 1) ≡ t → told n (a ++ b) ≡ told n a
-    by-count true e =
-        let f : n ≡ 2 ^ 64 - 1 = eqb-true n (2 ^ 64 - 1) e in
-        told-full n (a ++ b) (some (a ++ b) longer) f ∙ sym (told-full n a (some a h) f)
-    by-count false e = by-size (eqb-false n (2 ^ 64 - 1) e) (ltb 8192 (sizeOf a)) refl
+pub step-counts : (n : ℕ) (head body : List ℕ) {s : Step} → s ≡ stepOf (told n head body) → s .last ≡ false → s .records ≡ n + 1
+unfolding stepOf
+step-counts n head body e f =
+    ap (λ (s : Step). s .records) e ∙ counts n head body (sym (ap (λ (s : Step). s .last) e) ∙ f)

@@ -1,5 +1,6 @@
 -- The report of a whole input: records one after the other, each four octets of length, the highest first, and then as many octets.
--- Assumes nothing.
+-- Beside it what is told of one record from the octets that there were of it, and the report as a program that goes record by record
+-- writes it. Assumes nothing.
 use Prim.Native.Nat.{ℕ, zero, suc, _+_, _-_, _*_, _^_}
 use mathlib.Core.Bool.{Bool, true, false}
 use mathlib.Core.List.{List, [], _++_}
@@ -14,37 +15,69 @@ use Rattle.report.specs.Text.{heading, cut, lineOf, countLine}
 unfoldable pub sizeOf : List ℕ → ℕ
 sizeOf input = getD input 0 0 * 2 ^ 24 + getD input 1 0 * 2 ^ 16 + getD input 2 0 * 2 ^ 8 + getD input 3 0
 
--- what the input's front comes to: a text, how many octets it took, how many records are counted then, and whether the report ends
+-- ---- the whole input
+
+-- after n records: the end of the input; a header cut by the end; a length above 8,192, which is refused and counted, and ends the
+-- reading; a body cut by the end; a record, whose number is n + 1, and what follows it. At most so many records.
+unfoldable pub reportOn : ℕ → ℕ → List ℕ → List ℕ
+reportOn zero n input = []
+reportOn (suc most) n input =
+    pick (eqb (length input) 0) (countLine n)
+    (pick (ltb (length input) 4) (cut ++ countLine n)
+    (pick (ltb 8192 (sizeOf input)) (lineOf (n + 1) (Refused 2 0) ++ countLine (n + 1))
+    (pick (ltb (length input - 4) (sizeOf input)) (cut ++ countLine n)
+    (lineOf (n + 1) (judged (take (sizeOf input) (drop 4 input))) ++ reportOn most (n + 1) (drop (4 + sizeOf input) input)))))
+
+-- the whole report; each record takes four octets at least, so that there are fewer records than octets
+unfoldable pub reportOf : List ℕ → List ℕ
+reportOf input = heading ++ reportOn (suc (length input)) 0 input
+
+-- ---- one record
+
+-- how many octets are to be read after a header: none after one that is cut, or whose length is above 8,192
+unfoldable pub toRead : List ℕ → ℕ
+toRead head = pick (ltb (length head) 4) 0 (pick (ltb 8192 (sizeOf head)) 0 (sizeOf head))
+
+-- what is told of a record: a text, how many records are counted then, and whether the report ends
 pub record Told : Type 0 where
   pub text : List ℕ
-  pub used : ℕ
   pub records : ℕ
   pub last : Bool
 
 -- the count line always ends the report
 unfoldable pub ending : ℕ → List ℕ → Told
-ending n text = record { text = text ++ countLine n; used = 0; records = n; last = true }
+ending n text = record { text = text ++ countLine n; records = n; last = true }
 
-unfoldable pub going : ℕ → ℕ → List ℕ → Told
-going n used text = record { text = text; used = used; records = n; last = false }
+unfoldable pub going : ℕ → List ℕ → Told
+going n text = record { text = text; records = n; last = false }
 
--- after n records: the end of the input; a header cut by the end; a length above 8,192, which is refused and counted, and ends the
--- reading; a body cut by the end; a record, whose number is n + 1. A count that has no room for another record ends the report.
-unfoldable pub told : ℕ → List ℕ → Told
-told n input =
-    pick (eqb (length input) 0) (ending n [])
+-- after n records, from the octets that there were of a header and of the body after it. A count that has no room for another record
+-- ends the report.
+unfoldable pub told : ℕ → List ℕ → List ℕ → Told
+told n head body =
+    pick (eqb (length head) 0) (ending n [])
     (pick (eqb n (2 ^ 64 - 1)) (ending n [])
-    (pick (ltb (length input) 4) (ending n cut)
-    (pick (ltb 8192 (sizeOf input)) (ending (n + 1) (lineOf (n + 1) (Refused 2 0)))
-    (pick (ltb (length input - 4) (sizeOf input)) (ending n cut)
-    (going (n + 1) (4 + sizeOf input) (lineOf (n + 1) (judged (take (sizeOf input) (drop 4 input)))))))))
+    (pick (ltb (length head) 4) (ending n cut)
+    (pick (ltb 8192 (sizeOf head)) (ending (n + 1) (lineOf (n + 1) (Refused 2 0)))
+    (pick (ltb (length body) (sizeOf head)) (ending n cut)
+    (going (n + 1) (lineOf (n + 1) (judged body)))))))
 
--- what is told from here on, in at most so many steps
-unfoldable pub toldOn : ℕ → ℕ → List ℕ → List ℕ
-toldOn zero n input = []
-toldOn (suc steps) n input =
-    told n input .text ++ pick (told n input .last) [] (toldOn steps (told n input .records) (drop (told n input .used) input))
+-- ---- record by record
 
--- the whole report; each record takes four octets at least, so that there are fewer steps than octets but for the last
-unfoldable pub reportOf : List ℕ → List ℕ
-reportOf input = heading ++ toldOn (suc (length input)) 0 input
+-- the octets of a header, and of what is read after it
+abbrev pub headOf : List ℕ → List ℕ
+headOf input = take 4 input
+
+abbrev pub bodyOf : List ℕ → List ℕ
+bodyOf input = take (toRead (headOf input)) (drop 4 input)
+
+-- what is written by a program that reads a header and the octets after it, writes what is told of them, and goes on with what is left
+unfoldable pub walkOn : ℕ → ℕ → List ℕ → List ℕ
+walkOn zero n input = []
+walkOn (suc most) n input =
+    told n (headOf input) (bodyOf input) .text
+    ++ pick (told n (headOf input) (bodyOf input) .last) []
+    (walkOn most (told n (headOf input) (bodyOf input) .records) (drop (4 + toRead (headOf input)) input))
+
+unfoldable pub walked : List ℕ → List ℕ
+walked input = heading ++ walkOn (suc (length input)) 0 input

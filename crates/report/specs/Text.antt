@@ -62,16 +62,20 @@ readOn v (d ∷ ds) = readOn (v * 10 + (d - 48)) ds
 
 -- ---- lines
 
--- a word and two numbers, after the number of a record
+-- a word and two numbers
 unfoldable pub pairText : List ℕ → ℕ → ℕ → List ℕ
 pairText word a b = word ++ decimal a ++ blank ++ decimal b ++ lineEnd
 
+-- what a record comes to
+unfoldable pub outcomeText : Outcome → List ℕ
+outcomeText (Aes3 a b) = pairText aes3Ok a b
+outcomeText (Hd group dbn) = pairText hdOk group dbn
+outcomeText (Madi active syncs) = pairText madiOk active syncs
+outcomeText (Refused number place) = pairText refused number place
+
 -- the line of record n
 unfoldable pub lineOf : ℕ → Outcome → List ℕ
-lineOf n (Aes3 a b) = decimal n ++ pairText aes3Ok a b
-lineOf n (Hd group dbn) = decimal n ++ pairText hdOk group dbn
-lineOf n (Madi active syncs) = decimal n ++ pairText madiOk active syncs
-lineOf n (Refused number place) = decimal n ++ pairText refused number place
+lineOf n o = decimal n ++ outcomeText o
 
 -- the line that ends the report
 unfoldable pub countLine : ℕ → List ℕ

@@ -1,172 +1,147 @@
-// The report on a stream of records, as functions on slices: the program over it only reads and writes.
+// The report on a stream of records, one record at a time: the program over it only reads, calls this and writes.
 ghost use mathlib.Core.Path.{_≡_};
-ghost use mathlib.Core.List.{_++_};
-ghost use Prim.Native.Nat.{_+_, _*_, _^_, _≤_, _<_};
-ghost use lib.ListN.{length, take, drop};
-ghost use Rattle.report.specs.Text.{heading, decimal, pairText, lineOf, countLine};
-ghost use Rattle.report.specs.Report.{sizeOf, going, ending, told};
-ghost use Rattle.report.specs.Inner.{stepTold, Sized};
+ghost use mathlib.Core.List.{_∷_, []};
+ghost use Prim.Native.Nat.{_+_, _≤_, _<_};
+ghost use lib.ListN.{length};
+ghost use Rattle.report.specs.Text.{heading, decimal, pairText, outcomeText, lineOf, countLine};
+ghost use Rattle.report.specs.Report.{sizeOf, toRead, ending, told};
+ghost use Rattle.report.specs.Inner.{startOf, withText, stepOf, Put};
 ghost use Rattle.records.specs.declared.Outcome.the-variants.{Refused};
 use records::Outcome;
 
-// The text at the front of `bytes`, how many octets of the input it took, how many records are counted then, and whether it is the
-// report's last.
+// Where the text that is told starts, which goes to the end of the lent buffer; how many records are counted then; and whether it is
+// the report's last.
 pub struct Step {
-    pub bytes: [u8; 128],
-    pub len: usize,
-    pub used: usize,
+    pub from: usize,
     pub records: u64,
     pub last: bool,
 }
 
-// 128 zeros. A goal then has only this length to say of the buffer, and not the zeros.
-fn room() -> [u8; 128]
-    ensures { λ r. ⌜ length r ≡ 128 ⌝ }
+// ---- text, put before a place of a buffer; each function answers where the text starts. A line is so made from its end, as the
+// digits of a number are, and nothing is copied.
+
+fn put_octet(out: &mut [u8], end: usize, x: u8) -> usize
+    requires { ⌜ (1 ≤ end) × (end ≤ length (now out)) ⌝ }
+    ensures { λ r. ⌜ Put (now (out .entry)) end (x ∷ []) r (now (out .exit)) ⌝ }
 {
-    [0; 128]
+    let at = end - 1;
+    out[at] = x;
+    at
 }
 
-// ---- text, put behind the first `at` octets of a buffer; each function answers where the text then ends
-
-fn put(out: &mut [u8], at: usize, w: &[u8]) -> usize
-    requires { ⌜ at + length (now w) ≤ length (now out) ⌝ }
-    ensures { λ r. ⌜ take r (now (out .exit)) ≡ take at (now (out .entry)) ++ now (w .entry) ⌝ }
-    ensures { λ r. ⌜ r ≡ at + length (now (w .entry)) ⌝ }
+fn put(out: &mut [u8], end: usize, word: &[u8]) -> usize
+    requires { ⌜ (length (now word) ≤ end) × (end ≤ length (now out)) ⌝ }
+    ensures { λ r. ⌜ Put (now (out .entry)) end (now (word .entry)) r (now (out .exit)) ⌝ }
 {
+    let from = end - word.len();
     let mut i = 0;
-    while i < w.len() {
-        out[at + i] = w[i];
+    while i < word.len() {
+        out[from + i] = word[i];
         i += 1;
     }
-    at + i
+    from
 }
 
-// Puts n's decimal digits at the end of d, and answers where they start.
-fn spell(n: u64, d: &mut [u8]) -> usize
-    requires { ⌜ length (now d) ≡ 20 ⌝ }
-    ensures { λ r. ⌜ (r ≤ 20) × (drop r (now (d .exit)) ≡ decimal n) ⌝ }
+fn put_number(out: &mut [u8], end: usize, n: u64) -> usize
+    requires { ⌜ (20 ≤ end) × (end ≤ length (now out)) ⌝ }
+    ensures { λ r. ⌜ Put (now (out .entry)) end (decimal n) r (now (out .exit)) ⌝ }
+    ensures { λ r. ⌜ end ≤ r + 20 ⌝ }
 {
-    let mut at: usize = 20;
+    let base = end - 20;
+    let mut left: usize = 20;
     let mut rest = n;
-    while 0 < at {
-        at -= 1;
-        d[at] = (48 + rest % 10) as u8;
+    while 0 < left {
+        left -= 1;
+        out[base + left] = (48 + rest % 10) as u8;
         rest /= 10;
         if rest == 0 {
-            return at;
+            return base + left;
         }
     }
-    0
-}
-
-fn put_number(out: &mut [u8], at: usize, n: u64) -> usize
-    requires { ⌜ at + 20 ≤ length (now out) ⌝ }
-    ensures { λ r. ⌜ take r (now (out .exit)) ≡ take at (now (out .entry)) ++ decimal n ⌝ }
-    ensures { λ r. ⌜ r ≤ at + 20 ⌝ }
-{
-    if n < 10 {
-        out[at] = (48 + n) as u8;
-        return at + 1;
-    }
-    let mut d = [0u8; 20];
-    let from = spell(n, &mut d);
-    put(out, at, &d[from..])
+    base
 }
 
 // A word and two numbers, which end the line.
-fn put_pair(out: &mut [u8], at: usize, word: &[u8], a: u32, b: u32) -> usize
-    requires { ⌜ at + length (now word) + 42 ≤ length (now out) ⌝ }
-    ensures { λ r. ⌜ take r (now (out .exit)) ≡ take at (now (out .entry)) ++ pairText (now (word .entry)) a b ⌝ }
-    ensures { λ r. ⌜ r ≤ at + length (now (word .entry)) + 42 ⌝ }
+fn put_pair(out: &mut [u8], end: usize, word: &[u8], a: u32, b: u32) -> usize
+    requires { ⌜ (length (now word) + 42 ≤ end) × (end ≤ length (now out)) ⌝ }
+    ensures { λ r. ⌜ Put (now (out .entry)) end (pairText (now (word .entry)) a b) r (now (out .exit)) ⌝ }
+    ensures { λ r. ⌜ end ≤ r + length (now (word .entry)) + 42 ⌝ }
 {
-    let t = put(out, at, word);
-    let t = put_number(out, t, a as u64);
-    let t = put(out, t, b" ");
+    let t = put_octet(out, end, b'\n');
     let t = put_number(out, t, b as u64);
-    put(out, t, b"\n")
+    let t = put_octet(out, t, b' ');
+    let t = put_number(out, t, a as u64);
+    put(out, t, word)
 }
 
-// The line of record n.
-fn put_line(out: &mut [u8], n: u64, o: Outcome) -> usize
-    requires { ⌜ 80 ≤ length (now out) ⌝ }
-    ensures { λ r. ⌜ take r (now (out .exit)) ≡ lineOf n o ⌝ }
-    ensures { λ r. ⌜ r ≤ 80 ⌝ }
+fn put_outcome(out: &mut [u8], end: usize, o: Outcome) -> usize
+    requires { ⌜ (51 ≤ end) × (end ≤ length (now out)) ⌝ }
+    ensures { λ r. ⌜ Put (now (out .entry)) end (outcomeText o) r (now (out .exit)) ⌝ }
+    ensures { λ r. ⌜ end ≤ r + 51 ⌝ }
 {
-    let t = put_number(out, 0, n);
     match o {
-        Outcome::Aes3 { a, b } => put_pair(out, t, b" aes3 ok ", a, b),
-        Outcome::Hd { group, dbn } => put_pair(out, t, b" hd ok ", group, dbn),
-        Outcome::Madi { active, syncs } => put_pair(out, t, b" madi ok ", active, syncs),
-        Outcome::Refused { number, place } => put_pair(out, t, b" refused ", number, place),
+        Outcome::Aes3 { a, b } => put_pair(out, end, b" aes3 ok ", a, b),
+        Outcome::Hd { group, dbn } => put_pair(out, end, b" hd ok ", group, dbn),
+        Outcome::Madi { active, syncs } => put_pair(out, end, b" madi ok ", active, syncs),
+        Outcome::Refused { number, place } => put_pair(out, end, b" refused ", number, place),
     }
 }
 
-// The line that ends the report.
-fn put_count(out: &mut [u8], at: usize, n: u64) -> usize
-    requires { ⌜ at + 29 ≤ length (now out) ⌝ }
-    ensures { λ r. ⌜ take r (now (out .exit)) ≡ take at (now (out .entry)) ++ countLine n ⌝ }
-    ensures { λ r. ⌜ r ≤ at + 29 ⌝ }
+// The line of record n.
+fn put_line(out: &mut [u8], end: usize, n: u64, o: Outcome) -> usize
+    requires { ⌜ (71 ≤ end) × (end ≤ length (now out)) ⌝ }
+    ensures { λ r. ⌜ Put (now (out .entry)) end (lineOf n o) r (now (out .exit)) ⌝ }
 {
-    let t = put(out, at, b"records ");
+    let t = put_outcome(out, end, o);
+    put_number(out, t, n)
+}
+
+// The line that ends the report, at the end of the buffer.
+fn put_count(out: &mut [u8], n: u64) -> usize
+    requires { ⌜ length (now out) ≡ 128 ⌝ }
+    ensures { λ r. ⌜ Put (now (out .entry)) 128 (countLine n) r (now (out .exit)) ⌝ }
+    ensures { λ r. ⌜ 99 ≤ r ⌝ }
+{
+    let t = put_octet(out, 128, b'\n');
     let t = put_number(out, t, n);
-    put(out, t, b"\n")
+    put(out, t, b"records ")
 }
 
 // ---- steps of the report
 
-// The line of record n, and on.
-fn go_on(n: u64, used: usize, o: Outcome) -> Step
-    ensures { λ r. ⌜ stepTold r ≡ going n used (lineOf n o) ⌝ }
-    ensures { λ r. ⌜ Sized r ⌝ }
-{
-    let mut out = room();
-    let len = put_line(&mut out, n, o);
-    Step {
-        bytes: out,
-        len,
-        used,
-        records: n,
-        last: false,
-    }
-}
-
 // The count line behind a word.
-fn end_after(n: u64, word: &[u8]) -> Step
-    requires { ⌜ length (now word) ≤ 80 ⌝ }
-    ensures { λ r. ⌜ stepTold r ≡ ending n (now (word .entry)) ⌝ }
-    ensures { λ r. ⌜ Sized r ⌝ }
+fn end_after(n: u64, word: &[u8], out: &mut [u8]) -> Step
+    requires { ⌜ (length (now word) ≤ 99) × (length (now out) ≡ 128) ⌝ }
+    ensures { λ r. ⌜ r ≡ stepOf (ending n (now (word .entry))) ⌝ }
+    ensures { λ _. ⌜ now (out .exit) ≡ withText (ending n (now (word .entry)) .text) (now (out .entry)) ⌝ }
 {
-    let mut out = room();
-    let t = put(&mut out, 0, word);
-    let len = put_count(&mut out, t, n);
+    let t = put_count(out, n);
+    let from = put(out, t, word);
     Step {
-        bytes: out,
-        len,
-        used: 0,
+        from,
         records: n,
         last: true,
     }
 }
 
 // The count line behind that of record n, which is too long.
-fn end_refused(n: u64) -> Step
-    ensures { λ r. ⌜ stepTold r ≡ ending n (lineOf n (Refused 2 0)) ⌝ }
-    ensures { λ r. ⌜ Sized r ⌝ }
+fn end_refused(n: u64, out: &mut [u8]) -> Step
+    requires { ⌜ length (now out) ≡ 128 ⌝ }
+    ensures { λ r. ⌜ r ≡ stepOf (ending n (lineOf n (Refused 2 0))) ⌝ }
+    ensures { λ _. ⌜ now (out .exit) ≡ withText (ending n (lineOf n (Refused 2 0)) .text) (now (out .entry)) ⌝ }
 {
-    let mut out = room();
-    let t = put_line(
-        &mut out,
+    let t = put_count(out, n);
+    let from = put_line(
+        out,
+        t,
         n,
         Outcome::Refused {
             number: 2,
             place: 0,
         },
     );
-    let len = put_count(&mut out, t, n);
     Step {
-        bytes: out,
-        len,
-        used: 0,
+        from,
         records: n,
         last: true,
     }
@@ -178,52 +153,61 @@ fn wide(x: u8) -> usize
     x as usize
 }
 
-// The length that stands first, the highest octet first.
-fn size_of(input: &[u8]) -> usize
-    requires { ⌜ 4 ≤ length (now input) ⌝ }
-    ensures { λ r. ⌜ r ≡ sizeOf (now (input .entry)) ⌝ }
+// The length that a header gives, the highest octet first.
+fn size_of(head: &[u8]) -> usize
+    requires { ⌜ 4 ≤ length (now head) ⌝ }
+    ensures { λ r. ⌜ r ≡ sizeOf (now (head .entry)) ⌝ }
 {
-    wide(input[0]) * 16777216 + wide(input[1]) * 65536 + wide(input[2]) * 256 + wide(input[3])
+    wide(head[0]) * 16777216 + wide(head[1]) * 65536 + wide(head[2]) * 256 + wide(head[3])
 }
 
 // The report's first line.
-pub fn begin() -> Step
-    ensures { λ r. ⌜ stepTold r ≡ going 0 0 heading ⌝ }
-    ensures { λ r. ⌜ Sized r ⌝ }
+pub fn begin(out: &mut [u8; 128]) -> usize
+    ensures { λ r. ⌜ r ≡ startOf heading ⌝ }
+    ensures { λ _. ⌜ now (out .exit) ≡ withText heading (now (out .entry)) ⌝ }
 {
-    let mut out = room();
-    let len = put(&mut out, 0, b"carrier report 1\n");
-    Step {
-        bytes: out,
-        len,
-        used: 0,
-        records: 0,
-        last: false,
-    }
+    put(out, 128, b"carrier report 1\n")
 }
 
-// What the front of the input comes to, after n records. The octets at hand must be all that are left of the input, or 8,196 at least.
-pub fn tell(n: u64, input: &[u8]) -> Step
-    ensures { λ r. ⌜ stepTold r ≡ told n (now (input .entry)) ⌝ }
-    ensures { λ r. ⌜ Sized r ⌝ }
+// How many octets are to be read after a header of four octets, or of as many as were left.
+pub fn to_read(head: &[u8]) -> usize
+    ensures { λ r. ⌜ r ≡ toRead (now (head .entry)) ⌝ }
 {
-    if input.len() == 0 {
-        return end_after(n, b"");
+    if head.len() < 4 {
+        return 0;
+    }
+    let size = size_of(head);
+    if size <= 8192 {
+        return size;
+    }
+    0
+}
+
+// What a header and the octets read after it come to, after n records.
+pub fn tell(n: u64, head: &[u8], body: &[u8], out: &mut [u8; 128]) -> Step
+    ensures { λ r. ⌜ r ≡ stepOf (told n (now (head .entry)) (now (body .entry))) ⌝ }
+    ensures { λ _. ⌜ now (out .exit) ≡ withText (told n (now (head .entry)) (now (body .entry)) .text) (now (out .entry)) ⌝ }
+{
+    if head.len() == 0 {
+        return end_after(n, b"", out);
     }
     if n == 18446744073709551615 {
-        return end_after(n, b"");
+        return end_after(n, b"", out);
     }
-    if input.len() < 4 {
-        return end_after(n, b"cut\n");
+    if head.len() < 4 {
+        return end_after(n, b"cut\n", out);
     }
-    let size = size_of(input);
+    let size = size_of(head);
     if 8192 < size {
-        return end_refused(n + 1);
+        return end_refused(n + 1, out);
     }
-    if input.len() - 4 < size {
-        return end_after(n, b"cut\n");
+    if body.len() < size {
+        return end_after(n, b"cut\n", out);
     }
-    let end = 4 + size;
-    let o = records::judge(&input[4..end]);
-    go_on(n + 1, end, o)
+    let from = put_line(out, 128, n + 1, records::judge(body));
+    Step {
+        from,
+        records: n + 1,
+        last: false,
+    }
 }

@@ -1,59 +1,31 @@
-// Reports on whole inputs, each walked from its start through the library: what one stream cannot hold, since each of these ends
-// its reading. The file `stdout` is what tests/second/trial_report.c prints.
-ghost use mathlib.Core.Path.{_≡_};
-ghost use mathlib.Core.Bool.{false};
-ghost use Prim.Native.Nat.{_+_, _≤_};
-ghost use lib.ListN.{length};
-ghost use Rattle.report.specs.Inner.{Sized};
-use report::Step;
+// Reports on whole inputs, each walked from its start through the library, as the report program reads: what one stream cannot hold,
+// since each of these ends its reading. The file `stdout` is what tests/second/trial_report.c prints.
+ghost use Prim.Native.Nat.{_≤_};
 
-// How many records are counted, where the input is told up to, and whether all is told.
-struct State {
-    n: u64,
-    at: usize,
-    last: bool,
-}
-
-fn print(s: Step)
-    requires { ⌜ Sized s ⌝ }
+fn least(a: usize, b: usize) -> usize
+    ensures { λ r. ⌜ r ≤ a ⌝ }
 {
-    let bytes = s.bytes;
-    let len = s.len;
-    io::write_all(1, &bytes[..len]);
-}
-
-fn turn(input: &[u8], s: State) -> State
-    requires { ⌜ s .at ≤ length (now input) ⌝ }
-    ensures { λ r. ⌜ r .at ≤ length (now (input .entry)) ⌝ }
-    ensures { λ r. ⌜ (r .last ≡ false → r .n ≡ s .n + 1) ⌝ }
-{
-    let at = s.at;
-    let to = input.len();
-    let step = report::tell(s.n, &input[at..to]);
-    print(step);
-    if step.last {
-        return State {
-            n: s.n,
-            at,
-            last: true,
-        };
-    }
-    State {
-        n: step.records,
-        at: at + step.used,
-        last: false,
-    }
+    if a < b { a } else { b }
 }
 
 fn run(input: &[u8]) {
-    print(report::begin());
-    let mut s = State {
-        n: 0,
-        at: 0,
-        last: false,
-    };
-    while !s.last {
-        s = turn(input, s);
+    let mut out = [0u8; 128];
+    let start = report::begin(&mut out);
+    io::write_all(1, &out[start..]);
+    let mut n: u64 = 0;
+    let mut at: usize = 0;
+    loop {
+        let body = at + least(input.len() - at, 4);
+        let size = report::to_read(&input[at..body]);
+        let end = body + least(input.len() - body, size);
+        let step = report::tell(n, &input[at..body], &input[body..end], &mut out);
+        let from = step.from;
+        io::write_all(1, &out[from..]);
+        if step.last {
+            break;
+        }
+        n = step.records;
+        at = end;
     }
     io::write_all(1, b"\n");
 }

@@ -1,23 +1,25 @@
 -- `report::put` meets its contract. Assumes nothing.
-use mathlib.Core.Path.{_≡_, refl, sym}
-use mathlib.Core.List.{_++_, append-nil}
-use Prim.Native.Nat.{_+_, _-_, _≤_}
-use native.Mathlib.Nat.{add-zero}
+use mathlib.Core.Path.{_≡_}
+use Prim.Native.Nat.{_-_, _≤_}
 use native.Mathlib.Omega.{arith}
 use borrow.Author.Needs.{needs}
-use lib.ListN.{length, take}
-use Rattle.report.proofs.TextLaws.{put-more, put-all}
+use lib.ListN.{length}
+use lib.Seq.{paste, paste-zero}
+use Rattle.report.proofs.TextLaws.{paste-more, put-paste}
 use Rattle.report.proofs.put.Statement.{statement}
 use Rattle.report.proofs.put.Tie as tie
 
 abbrev Inv-loop : tie.InvT-loop
-Inv-loop out₀ at w i₀ out i = (i ≤ length w) × (length out ≡ length out₀) × (take (at + i) out ≡ take at out₀ ++ take i w)
+Inv-loop out₀ end word from i₀ out i = (i ≤ length word) × (length out ≡ length out₀) × (out ≡ paste out₀ from word i)
 
 abbrev μ-loop : tie.MeasureT-loop
-μ-loop out₀ at w i₀ out i = length w - i
+μ-loop out₀ end word from i₀ out i = length word - i
+
+sub-from : tie.Need-sub-from Inv-loop μ-loop
+sub-from c = search needs
 
 loop-holds : tie.Need-loop-holds Inv-loop μ-loop
-loop-holds c = (search needs, search needs, rw add-zero (sym (append-nil (take (c .args .at) (c .args .out .now)))))
+loop-holds c = (search needs, search needs, paste-zero (c .args .out .now) (c .args .end - length (c .args .word .now)) (c .args .word .now))
 
 shared-slice-read-out : tie.Need-shared-slice-read-out Inv-loop μ-loop
 shared-slice-read-out c = search needs
@@ -37,14 +39,11 @@ loop-less c = search needs
 loop-again : tie.Need-loop-again Inv-loop μ-loop
 loop-again c =
     let l = c .before .before .loop in
-    let s = c .before .before .before in (
+    let a = c .before .before .before .args in (
       search needs,
       search needs,
-      put-more (l .out) (take (s .args .at) (s .args .out .now)) (s .args .w .now) (s .args .at) (l .i) (omega arith) (omega arith) (l .inv .2),
+      paste-more (a .out .now) (a .word .now) (a .end - length (a .word .now)) (l .i) (omega arith) (omega arith) (l .inv .2),
     )
-
-add-result : tie.Need-add-result Inv-loop μ-loop
-add-result c = search needs
 
 same-length : tie.Need-same-length Inv-loop μ-loop
 same-length c = search needs
@@ -52,8 +51,8 @@ same-length c = search needs
 returns : tie.Need-returns Inv-loop μ-loop
 returns c =
     let l = c .before .loop in
-    let s = c .before .before in
-    (put-all (l .out) (take (s .args .at) (s .args .out .now)) (s .args .w .now) (s .args .at) (l .i) (omega arith) (l .inv .2), search needs)
+    let a = c .before .before .args in
+    put-paste (a .out .now) (a .word .now) (a .end) (l .i) (omega arith) (omega arith) (omega arith) (l .inv .2)
 
 pub put-spec : {M : Type 1} → statement M
 put-spec =
@@ -61,6 +60,7 @@ put-spec =
     (tie.spec
     Inv-loop
     μ-loop
+    sub-from
     loop-holds
     shared-slice-read-out
     add-out
@@ -68,6 +68,5 @@ put-spec =
     add-i
     loop-less
     loop-again
-    add-result
     same-length
     returns)

@@ -1,10 +1,15 @@
 -- `report::put_count` meets its contract. Assumes nothing.
-use lib.ListN.{take}
-use Rattle.report.specs.Text.{records, decimal, lineEnd, countLine}
-use Rattle.report.proofs.TextLaws.{three}
+use Rattle.report.specs.Text.{countLine}
+use Rattle.report.proofs.TextLaws.{put-then}
 use borrow.Author.Needs.{needs}
 use Rattle.report.proofs.put_count.Statement.{statement}
 use Rattle.report.proofs.put_count.Tie as tie
+
+put-octet-requires : tie.Need-put-octet-requires
+put-octet-requires c κs = search needs
+
+put-number-requires : tie.Need-put-number-requires
+put-number-requires c κs = search needs
 
 slice-aggregate-put : tie.Need-slice-aggregate-put
 slice-aggregate-put c = search needs
@@ -12,34 +17,24 @@ slice-aggregate-put c = search needs
 put-requires : tie.Need-put-requires
 put-requires c κs = search needs
 
-put-number-requires : tie.Need-put-number-requires
-put-number-requires c κs = search needs
-
-slice-aggregate-put-2 : tie.Need-slice-aggregate-put-2
-slice-aggregate-put-2 c = search needs
-
-put-requires-2 : tie.Need-put-requires-2
-put-requires-2 c κs = search needs
-
 same-length : tie.Need-same-length
 same-length c = search needs
 
 returns : tie.Need-returns
 unfolding countLine
 returns c =
-    let n = c .before .before .before .before .before .before .before in
-    let p = n .before .before .before .before in
-    let a = p .before .before .before .before .args in
-    (three (take (a .at) (a .out .now)) records (decimal (a .n)) lineEnd (p .put .ensures .0) (n .put-number .ensures .0) (c .before .before .put2 .ensures .0), search needs)
+    let word = c .before .before in
+    let number = word .before .before .before .before .before in
+    let end = number .before .before .before .before in
+    (put-then (put-then (end .put-octet .ensures) (number .put-number .ensures .0)) (word .put .ensures), search needs)
 
 pub put-count-spec : {M : Type 1} → statement M
 put-count-spec =
     tie.close
     (tie.spec
+    put-octet-requires
+    put-number-requires
     slice-aggregate-put
     put-requires
-    put-number-requires
-    slice-aggregate-put-2
-    put-requires-2
     same-length
     returns)

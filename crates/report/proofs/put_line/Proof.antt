@@ -1,50 +1,15 @@
--- `report::put_line` meets its contract: four lines of one shape. Assumes nothing.
-use mathlib.Core.Path.{_≡_, sym, ap, _∙_}
-use mathlib.Core.List.{List, _++_}
-use Prim.Native.Nat.{ℕ}
+-- `report::put_line` meets its contract. Assumes nothing.
 use Rattle.report.specs.Text.{lineOf}
+use Rattle.report.proofs.TextLaws.{put-then}
 use borrow.Author.Needs.{needs}
 use Rattle.report.proofs.put_line.Statement.{statement}
 use Rattle.report.proofs.put_line.Tie as tie
 
+put-outcome-requires : tie.Need-put-outcome-requires
+put-outcome-requires c κs = search needs
+
 put-number-requires : tie.Need-put-number-requires
 put-number-requires c κs = search needs
-
-enum-known-o : tie.Need-enum-known-o
-enum-known-o c = search needs
-
-slice-aggregate-put-pair : tie.Need-slice-aggregate-put-pair
-slice-aggregate-put-pair c = search needs
-
-put-pair-requires : tie.Need-put-pair-requires
-put-pair-requires c κs = search needs
-
-enum-known-o-2 : tie.Need-enum-known-o-2
-enum-known-o-2 c = search needs
-
-slice-aggregate-put-pair-2 : tie.Need-slice-aggregate-put-pair-2
-slice-aggregate-put-pair-2 c = search needs
-
-put-pair-requires-2 : tie.Need-put-pair-requires-2
-put-pair-requires-2 c κs = search needs
-
-enum-known-o-3 : tie.Need-enum-known-o-3
-enum-known-o-3 c = search needs
-
-slice-aggregate-put-pair-3 : tie.Need-slice-aggregate-put-pair-3
-slice-aggregate-put-pair-3 c = search needs
-
-put-pair-requires-3 : tie.Need-put-pair-requires-3
-put-pair-requires-3 c κs = search needs
-
-enum-known-o-4 : tie.Need-enum-known-o-4
-enum-known-o-4 c = search needs
-
-slice-aggregate-put-pair-4 : tie.Need-slice-aggregate-put-pair-4
-slice-aggregate-put-pair-4 c = search needs
-
-put-pair-requires-4 : tie.Need-put-pair-requires-4
-put-pair-requires-4 c κs = search needs
 
 same-length : tie.Need-same-length
 same-length c = search needs
@@ -52,66 +17,9 @@ same-length c = search needs
 returns : tie.Need-returns
 unfolding lineOf
 returns c =
-    let p = c .before .before in
-    let o = p .before .before .before .before in
-    let s = o .before .before .before .before in
-    (cc (p .put-pair .ensures .0, s .put-number .ensures .0, ap (lineOf (s .before .before .before .args .n)) (o .o .given .1)), search needs)
-
-same-length-2 : tie.Need-same-length-2
-same-length-2 c = search needs
-
-returns-2 : tie.Need-returns-2
-unfolding lineOf
-returns-2 c =
-    let p = c .before .before in
-    let o = p .before .before .before .before in
-    let s = o .before .before .before .before in
-    (cc (p .put-pair2 .ensures .0, s .put-number .ensures .0, ap (lineOf (s .before .before .before .args .n)) (o .o2 .given .1)), search needs)
-
-same-length-3 : tie.Need-same-length-3
-same-length-3 c = search needs
-
-returns-3 : tie.Need-returns-3
-unfolding lineOf
-returns-3 c =
-    let p = c .before .before in
-    let o = p .before .before .before .before in
-    let s = o .before .before .before .before in
-    (cc (p .put-pair3 .ensures .0, s .put-number .ensures .0, ap (lineOf (s .before .before .before .args .n)) (o .o3 .given .1)), search needs)
-
-same-length-4 : tie.Need-same-length-4
-same-length-4 c = search needs
-
-returns-4 : tie.Need-returns-4
-unfolding lineOf
-returns-4 c =
-    let p = c .before .before in
-    let o = p .before .before .before .before in
-    let s = o .before .before .before .before in
-    (cc (p .put-pair4 .ensures .0, s .put-number .ensures .0, ap (lineOf (s .before .before .before .args .n)) (o .o4 .given .1)), search needs)
+    let number = c .before .before in
+    let outcome = number .before .before .before .before in
+    put-then (outcome .put-outcome .ensures .0) (number .put-number .ensures .0)
 
 pub put-line-spec : {M : Type 1} → statement M
-put-line-spec =
-    tie.close
-    (tie.spec
-    put-number-requires
-    enum-known-o
-    slice-aggregate-put-pair
-    put-pair-requires
-    enum-known-o-2
-    slice-aggregate-put-pair-2
-    put-pair-requires-2
-    enum-known-o-3
-    slice-aggregate-put-pair-3
-    put-pair-requires-3
-    enum-known-o-4
-    slice-aggregate-put-pair-4
-    put-pair-requires-4
-    same-length
-    returns
-    same-length-2
-    returns-2
-    same-length-3
-    returns-3
-    same-length-4
-    returns-4)
+put-line-spec = tie.close (tie.spec put-outcome-requires put-number-requires same-length returns)
