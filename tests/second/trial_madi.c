@@ -1,5 +1,7 @@
-/* What crates/trial_madi prints, from the second program: MADI frames written, read back and damaged. `make expected` writes its output. */
+/* What crates/trial_madi prints, from the second program: MADI frames written, read back and damaged, and frames put together unit by
+   unit. `make expected` writes its output. */
 #include "second.h"
+#include "spoil.h"
 #include <stdio.h>
 #include <string.h>
 
@@ -145,6 +147,156 @@ static void damaged(uint32_t level, uint32_t seed)
     }
 }
 
+/* ---- frames put together unit by unit */
+
+static spoil_row row;
+static uint32_t sent[66];
+static uint8_t line[1000];
+
+/* The link coding example of BS.1873: the level before, then the first 39 symbols. */
+static int annex(void)
+{
+    static const char printed[] = "0100110010001101010010101101100110010101";
+    const uint32_t word = 0x0C30FA50;
+    char shown[41] = "0";
+    memset(line, 0, sizeof line);
+    write_case(56, &word, 1, 1, 0, line, 640);
+    for (int k = 0; k < 39; k++)
+        shown[k + 1] = line[k / 8] >> (7 - k % 8) & 1 ? '1' : '0';
+    printf("a %s\n", shown);
+    return strcmp(shown, printed) == 0;
+}
+
+/* Words of a frame with so many active channels. */
+static void sent_words(uint32_t seed, uint32_t active)
+{
+    fill_words(seed, sent, 66);
+    for (uint32_t c = 0; c < 66; c++)
+        sent[c] = c < active ? sent[c] | 2 | (c == 0) : 0;
+}
+
+/* Their line, syncs after every ninth channel, the 40 bits of the channel at a place changed. */
+static void put_frame(uint32_t level, uint32_t channels, uint32_t before, uint32_t between, uint32_t after, uint32_t place, uint64_t flip)
+{
+    row.bits = 0;
+    spoil_add_syncs(&row, before);
+    for (uint32_t c = 0; c < channels; c++) {
+        spoil_add_channel(&row, sent[c]);
+        for (uint32_t k = 0; k < 40 && c == place; k++)
+            row.bit[row.bits - 1 - k] ^= (uint8_t)(flip >> k & 1);
+        if (c % 9 == 4)
+            spoil_add_syncs(&row, between);
+    }
+    spoil_add_syncs(&row, after);
+    memset(line, 0, sizeof line);
+    spoil_pack(&row, level, line);
+}
+
+static void read_row(uint32_t channels, uint32_t level)
+{
+    uint32_t back[66];
+    for (int k = 0; k < 66; k++)
+        back[k] = 7;
+    printf("f %u %u\n", row.bits, sum_octets(line, sizeof line));
+    read_case(channels, level, row.bits, line, (row.bits + 7) / 8, back, channels);
+}
+
+static uint32_t read_row_sum(uint32_t h, uint32_t channels, uint32_t level, uint32_t bits)
+{
+    uint32_t back[66];
+    for (int k = 0; k < 66; k++)
+        back[k] = 9;
+    second_madi_read_answer a = second_madi_read(channels, level, bits, line, (bits + 7) / 8, back, channels);
+    h = a.number == 0 ? more_word(more_word(h, a.active), a.syncs) : more_word(more_word(h, a.number), a.place);
+    return sum_words(h, back, channels);
+}
+
+static uint32_t either(uint32_t k)
+{
+    return k % 2 == 1 ? 64 : 56;
+}
+
+static void placed(void)
+{
+    static const uint32_t before[4] = {0, 85, 170, 255}, after[6] = {0, 1, 2, 254, 255, 256};
+    for (uint32_t c = 0; c < 144; c++) {
+        sent_words(1, either(c) - c % 3);
+        put_frame(c / 5 % 2, either(c), before[c / 2 % 4], c / 8 % 3, after[c / 24], 0, 0);
+        read_row(either(c), c / 5 % 2);
+    }
+}
+
+static void counted(void)
+{
+    static const uint32_t channels[6] = {55, 56, 57, 63, 64, 65};
+    for (uint32_t c = 0; c < 36; c++) {
+        sent_words(2, c / 12);
+        put_frame(0, channels[c / 2 % 6], 0, 0, 1, 0, 0);
+        read_row(either(c), 0);
+    }
+}
+
+static void gaps(void)
+{
+    for (uint32_t c = 0; c < 128; c++) {
+        sent_words(3, either(c));
+        sent[c / 2] = 0;
+        put_frame(1, either(c), 0, 0, 2, 0, 0);
+        read_row(either(c), 1);
+    }
+}
+
+static void spoiled(void)
+{
+    for (uint32_t c = 0; c < 192; c++) {
+        const uint32_t place[3] = {0, 1, either(c) - 1};
+        sent_words(4, either(c));
+        sent[place[c / 2 % 3]] ^= 1u << c / 6;
+        put_frame(0, either(c), 0, 0, 1, 0, 0);
+        read_row(either(c), 0);
+    }
+}
+
+static void groups(void)
+{
+    for (uint32_t c = 0; c < 32; c++) {
+        uint32_t h = 0, place = c / 2 % 2 == 1 ? either(c) - 1 : 0;
+        sent_words(5, either(c));
+        for (uint64_t d = 1; d < 32; d++) {
+            put_frame(0, either(c), 0, 0, 1, place, d << (35 - 5 * (c / 4)));
+            h = read_row_sum(h, either(c), 0, row.bits);
+        }
+        printf("d %u\n", h);
+    }
+}
+
+static void cuts(void)
+{
+    uint32_t h = 0;
+    sent_words(6, 56);
+    put_frame(1, 56, 1, 1, 2, 0, 0);
+    for (uint32_t n = row.bits; n-- > 0;) {
+        line[n / 8] &= (uint8_t)~(128u >> n % 8);
+        h = read_row_sum(h, 56, 1, n);
+        if (n % 113 == 0)
+            printf("d %u\n", h);
+    }
+}
+
+static void damaged_rows(void)
+{
+    uint32_t h = 0;
+    sent_words(7, 64);
+    put_frame(0, 64, 1, 1, 2, 0, 0);
+    for (uint32_t c = 0; c < row.bits; c++) {
+        spoil_flip(line, c);
+        h = read_row_sum(h, 64, 0, row.bits);
+        spoil_flip(line, c);
+        if (c % 133 == 132)
+            printf("d %u\n", h);
+    }
+}
+
 int main(void)
 {
     uint32_t x = edges(1);
@@ -152,5 +304,16 @@ int main(void)
     lengths(x);
     damaged(0, x);
     damaged(1, x);
+    if (!annex()) {
+        fprintf(stderr, "trial_madi: not the link coding example of BS.1873\n");
+        return 1;
+    }
+    placed();
+    counted();
+    gaps();
+    spoiled();
+    groups();
+    cuts();
+    damaged_rows();
     return 0;
 }

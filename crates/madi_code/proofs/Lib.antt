@@ -1,4 +1,5 @@
 pub mod PairTables
+pub mod Folding
 pub mod GroupLaws
 pub mod ChannelLaws
 pub mod PairLaws

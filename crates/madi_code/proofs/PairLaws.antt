@@ -1,29 +1,27 @@
 -- Two groups at once are two groups, one after the other. Assumes nothing.
 use mathlib.Core.Path.{_≡_, refl, sym, ap, ap₂, _∙_}
-use mathlib.Core.Bool.{Bool, true, false, _&&_}
+use mathlib.Core.Bool.{true, _&&_}
 use mathlib.Core.List.{List}
-use Prim.Native.Nat.{ℕ, zero, suc, _+_, _*_, _-_, _/_, _%_, _^_, _≤_, _<_}
+use Prim.Native.Nat.{ℕ, _+_, _*_, _-_, _/_, _%_, _^_, _≤_, _<_}
 use native.Mathlib.Nat.{zero-add, div-one, add-mul, mul-assoc}
 use native.Mathlib.Omega.{arith}
 use borrow.Author.Tests.{ltb-true, lt-ltb}
 use lib.Dec.{ltb}
 use lib.ListN.{getD}
 use lib.Pow.{pow-add, shr-shr, field, mod-mod-pow}
-use Rattle.bits.specs.Pick.{pick}
 use Rattle.bits.specs.Row.{Row, bits, bigBits, big}
-use Rattle.bits.specs.Window.{part, window}
+use Rattle.bits.specs.Window.{window}
 use Rattle.bits.proofs.Tests.{pick-cases, both-true}
 use Rattle.bits.proofs.Rows.{bits-mod, length-bigBits, big-bigBits}
 use Rattle.bits.proofs.Windows.{part-all, window-split, window-part, window-high, window-low}
 use Rattle.madi_code.specs.Groups.{code, groupOf}
 use Rattle.madi_code.specs.Channels.{channelRow, channelFrom, channelOf}
-use Rattle.madi_code.specs.Inner.{meant, pairOf, octetOf, Pairs, Octets, fourPairs, allOctets, fourOctets}
-use Rattle.madi_code.specs.declared.Group.{Group}
-use Rattle.madi_code.specs.declared.Group.the-variants.{Data, Nothing}
+use Rattle.madi_code.specs.Inner.{meant, pairOf, octetOf, Pairs, Octets, fourPairs, allOctets, fourOctets, channelBy}
+use Rattle.madi_code.specs.declared.Group.the-variants.{Data}
 use Rattle.madi_code.specs.declared.Channel.{Channel}
 use Rattle.madi_code.specs.declared.Channel.the-variants.{Word}
 use Rattle.madi_code.proofs.GroupLaws.{group-meant}
-use Rattle.madi_code.proofs.ChannelLaws.{group-sent, groups-all, group-inside, channel-more}
+use Rattle.madi_code.proofs.ChannelLaws.{group-sent, groups-all, channel-more}
 
 pub octets-small : (a b c d : ℕ) → allOctets a b c d ≡ true → (a < 256) × (b < 256) × (c < 256) × (d < 256)
 octets-small a b c d h =
@@ -124,10 +122,11 @@ module _ (v i k : ℕ) (h : i < 4) (e : k ≡ window (bigBits 40 v) (10 * i) 10)
       gather : (w a b p o : ℕ) → o ≡ a + b * 16 → w + a * p + b * (16 * p) ≡ w + o * p
       gather w a b p o e = rw (e, add-mul a (b * 16) p, mul-assoc b 16 p) (omega arith)
 
-pub octets-received : (t : List ℕ) (v : ℕ) → Octets t → fourOctets t v ≡ channelOf (bigBits 40 v)
+pub word-received : (t : List ℕ) (v : ℕ) → Octets t → fourOctets t v < 2 ^ 32 → channelOf (bigBits 40 v) ≡ Word (fourOctets t v)
 unfolding fourOctets channelOf channelFrom
-octets-received t v right =
-    pick-cases (λ (x : Channel). x ≡ channelFrom (bigBits 40 v) 8 0 0) (allOctets (at 0) (at 1) (at 2) last) _ _ quick (λ f. refl)
+word-received t v right =
+    pick-cases (λ (w : ℕ). w < 2 ^ 32 → channelFrom (bigBits 40 v) 8 0 0 ≡ Word w) (allOctets (at 0) (at 1) (at 2) last) _ _
+    (λ all h. quick all) (λ f h. absurd (omega arith))
   where
     place : ℕ → ℕ
     place i = v / 2 ^ (30 - 10 * i) % 1024
@@ -139,7 +138,7 @@ octets-received t v right =
     last = getD t (v % 1024) 0
 
     quick : allOctets (at 0) (at 1) (at 2) last ≡ true
-        → Word (at 0 + at 1 * 2 ^ 8 + at 2 * 2 ^ 16 + last * 2 ^ 24) ≡ channelFrom (bigBits 40 v) 8 0 0
+        → channelFrom (bigBits 40 v) 8 0 0 ≡ Word (at 0 + at 1 * 2 ^ 8 + at 2 * 2 ^ 16 + last * 2 ^ 24)
     quick all =
         let s = octets-small (at 0) (at 1) (at 2) last all in
         let one : v / 1 % 1024 ≡ v % 1024 = ap (λ (x : ℕ). x % 1024) (div-one v) in
@@ -147,9 +146,33 @@ octets-received t v right =
         let b : at 1 ≡ octetOf (place 1) = right (place 1) (omega arith) in
         let c : at 2 ≡ octetOf (place 2) = right (place 2) (omega arith) in
         let d : last ≡ octetOf (place 3) = right (v % 1024) (omega arith) ∙ ap octetOf (sym one) in
-        sym (octet-more v 0 (place 0) (omega arith) (ten-inside v 0 (omega arith)) 0 (omega arith)
+        octet-more v 0 (place 0) (omega arith) (ten-inside v 0 (omega arith)) 0 (omega arith)
         ∙ octet-more v 1 (place 1) (omega arith) (ten-inside v 1 (omega arith)) (0 + octetOf (place 0) * 2 ^ 0) (omega arith)
         ∙ octet-more v 2 (place 2) (omega arith) (ten-inside v 2 (omega arith)) (0 + octetOf (place 0) * 2 ^ 0 + octetOf (place 1) * 2 ^ 8) (omega arith)
         ∙ octet-more v 3 (place 3) (omega arith) (ten-inside v 3 (omega arith))
         (0 + octetOf (place 0) * 2 ^ 0 + octetOf (place 1) * 2 ^ 8 + octetOf (place 2) * 2 ^ 16) (omega arith)
-        ∙ ap Word (omega arith))
+        ∙ ap Word (omega arith)
+
+pub octets-received : (t : List ℕ) (v : ℕ) → Octets t → channelBy t v ≡ channelOf (bigBits 40 v)
+unfolding channelBy
+octets-received t v right =
+    pick-cases (λ (x : Channel). x ≡ channelOf (bigBits 40 v)) (ltb (fourOctets t v) (2 ^ 32)) _ _
+    (λ h. sym (word-received t v right (ltb-true (fourOctets t v) (2 ^ 32) h))) (λ f. refl)
+
+-- a word, or 2 ^ 32
+pub word-small : (t : List ℕ) (v : ℕ) → fourOctets t v ≤ 2 ^ 32
+unfolding fourOctets
+word-small t v =
+    pick-cases (λ (w : ℕ). w ≤ 2 ^ 32) (allOctets a b c d) _ _ (λ all. let s = octets-small a b c d all in omega arith) (λ f. omega arith)
+  where
+    a : ℕ
+    a = getD t (v / 2 ^ 30 % 1024) 0
+
+    b : ℕ
+    b = getD t (v / 2 ^ 20 % 1024) 0
+
+    c : ℕ
+    c = getD t (v / 2 ^ 10 % 1024) 0
+
+    d : ℕ
+    d = getD t (v % 1024) 0

@@ -40,9 +40,13 @@ fourPairs t w =
 abbrev pub allOctets : ℕ → ℕ → ℕ → ℕ → Bool
 allOctets a b c d = ltb a 256 && ltb b 256 && ltb c 256 && ltb d 256
 
--- a channel from what a table says of ten bits four times, where that is an octet each time; else by its groups
-unfoldable pub fourOctets : List ℕ → ℕ → Channel
+-- the word of what a table says of ten bits four times, where that is an octet each time; else 2 ^ 32
+unfoldable pub fourOctets : List ℕ → ℕ → ℕ
 fourOctets t v =
     pick (allOctets (getD t (v / 2 ^ 30 % 1024) 0) (getD t (v / 2 ^ 20 % 1024) 0) (getD t (v / 2 ^ 10 % 1024) 0) (getD t (v % 1024) 0))
-    (Word (getD t (v / 2 ^ 30 % 1024) 0 + getD t (v / 2 ^ 20 % 1024) 0 * 2 ^ 8 + getD t (v / 2 ^ 10 % 1024) 0 * 2 ^ 16 + getD t (v % 1024) 0 * 2 ^ 24))
-    (channelOf (bigBits 40 v))
+    (getD t (v / 2 ^ 30 % 1024) 0 + getD t (v / 2 ^ 20 % 1024) 0 * 2 ^ 8 + getD t (v / 2 ^ 10 % 1024) 0 * 2 ^ 16 + getD t (v % 1024) 0 * 2 ^ 24)
+    (2 ^ 32)
+
+-- a channel by that word, and else by its groups
+unfoldable pub channelBy : List ℕ → ℕ → Channel
+channelBy t v = pick (ltb (fourOctets t v) (2 ^ 32)) (Word (fourOctets t v)) (channelOf (bigBits 40 v))

@@ -6,7 +6,7 @@ ghost use Rattle.subframe.specs.Body.{slots};
 ghost use Rattle.madi_code.specs.Groups.{code, groupOf};
 ghost use Rattle.madi_code.specs.Channels.{channelRow, channelOf};
 ghost use Rattle.madi_code.specs.Frame.{counted, evenBody};
-ghost use Rattle.madi_code.specs.Inner.{Pairs, Octets, fourPairs, allOctets, fourOctets};
+ghost use Rattle.madi_code.specs.Inner.{Pairs, Octets, fourPairs, allOctets, fourOctets, channelBy};
 
 mod tables;
 
@@ -97,18 +97,23 @@ pub fn is_counted(channels: u32) -> bool
     channels == 64
 }
 
-// 1 where the body in a channel's word holds an odd number of ones, else 0.
+// 1 where the body in a channel's word holds an odd number of ones, else 0: folded in halves, so that a loop takes words side by side.
 pub fn body_parity(w: u32) -> u32
     ensures { λ r. ⌜ r ≡ parity (slots w) ⌝ }
 {
-    u32::count_ones(w / 16) % 2
+    let a = w / 16;
+    let b = a ^ (a >> 16);
+    let c = b ^ (b >> 8);
+    let d = c ^ (c >> 4);
+    let e = d ^ (d >> 2);
+    (e ^ (e >> 1)) % 2
 }
 
 // Whether the body in a channel's word holds an even number of ones.
 pub fn is_even(w: u32) -> bool
     ensures { λ r. ⌜ r ≡ evenBody w ⌝ }
 {
-    body_parity(w) == 0
+    u32::count_ones(w / 16) % 2 == 0
 }
 
 // ---- by tables that a caller lays out once and lends for many channels
@@ -157,8 +162,8 @@ fn all_octets(a: u64, b: u64, c: u64, d: u64) -> bool
     false
 }
 
-// The channel of the lowest 40 bits of v, by a table of octets.
-pub fn channel_by(table: &[u16; 1024], v: u64) -> Channel
+// The word of the lowest 40 bits of v, by a table of octets; 2 ^ 32 where they are not all data groups.
+pub fn word_by(table: &[u16; 1024], v: u64) -> u64
     ensures { λ r. ⌜ r ≡ fourOctets (now (table .entry)) v ⌝ }
 {
     let a = wide(table[((v >> 30) % 1024) as usize]);
@@ -166,7 +171,18 @@ pub fn channel_by(table: &[u16; 1024], v: u64) -> Channel
     let c = wide(table[((v >> 10) % 1024) as usize]);
     let d = wide(table[(v % 1024) as usize]);
     if all_octets(a, b, c, d) {
-        return Channel::Word((a + b * 0x100 + c * 0x1_0000 + d * 0x100_0000) as u32);
+        return a + b * 0x100 + c * 0x1_0000 + d * 0x100_0000;
+    }
+    0x1_0000_0000
+}
+
+// The channel of the lowest 40 bits of v, by a table of octets.
+pub fn channel_by(table: &[u16; 1024], v: u64) -> Channel
+    ensures { λ r. ⌜ r ≡ channelBy (now (table .entry)) v ⌝ }
+{
+    let w = word_by(table, v);
+    if w < 0x1_0000_0000 {
+        return Channel::Word(w as u32);
     }
     channel_of(v)
 }

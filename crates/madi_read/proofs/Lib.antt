@@ -1,3 +1,4 @@
 pub mod Carrying
 pub mod Walking
+pub mod Onward
 pub mod Admitting

@@ -1,7 +1,11 @@
-// MADI frames written, read back and damaged. The file `stdout` is what tests/second/trial_madi.c prints over the second program.
+// MADI frames written, read back and damaged, and frames put together unit by unit. The file `stdout` is what
+// tests/second/trial_madi.c prints over the second program. Here stands what the cases share.
 ghost use Prim.Native.Nat.{_<_, _≤_};
 use madi_read::ReadAnswer;
 use madi_write::WriteAnswer;
+
+mod frames;
+mod units;
 
 // The generator that both programs use.
 fn next(x: u32) -> u32 {
@@ -177,99 +181,22 @@ fn read_some(
     }
 }
 
-// A frame with these numbers, written and read back.
-fn there_and_back(
+fn sum_some(
+    h: u64,
     channels: u32,
-    count: usize,
-    syncs: u32,
     level: u32,
-    seed: u32,
+    bits: u32,
+    line: &[u8],
+    n: usize,
     words: &mut [u32],
-    back: &mut [u32],
-    line: &mut [u8],
-) -> u32 {
-    let x = fill_words(seed, words);
-    fill_back(7, back);
-    fill_octets(165, line);
-    write_some(channels, words, count, syncs, level, line, 640);
-    let bits = 40 * (channels % 66) + 10 * (syncs % 257);
-    read_some(
-        channels,
-        level,
-        bits,
-        line,
-        ((bits + 7) / 8) as usize,
-        back,
-        (channels % 66) as usize,
-    );
-    x
-}
-
-fn count_of(channels: u32, k: u32) -> u32 {
-    if k == 0 {
-        return 1;
+    slots: usize,
+) -> u64 {
+    if n <= line.len() {
+        if slots <= words.len() {
+            return read_sum(h, channels, level, bits, &line[..n], &mut words[..slots]);
+        }
     }
-    if k == 1 {
-        return 2;
-    }
-    if k == 2 {
-        return channels % 100;
-    }
-    if k == 3 {
-        return 0;
-    }
-    channels % 100 + 1
-}
-
-fn channels_of(k: u32) -> u32 {
-    if k == 0 {
-        return 56;
-    }
-    if k == 1 {
-        return 64;
-    }
-    if k == 2 {
-        return 55;
-    }
-    65
-}
-
-fn syncs_of(k: u32) -> u32 {
-    if k == 0 {
-        return 1;
-    }
-    if k == 1 {
-        return 26;
-    }
-    if k == 2 {
-        return 255;
-    }
-    if k == 3 {
-        return 256;
-    }
-    0
-}
-
-// Every edge of the channel count, the word count, the sync count and the level.
-fn edges(seed: u32, words: &mut [u32], back: &mut [u32], line: &mut [u8]) -> u32 {
-    let mut x = seed;
-    let mut k: u32 = 0;
-    while k < 300 {
-        let channels = channels_of(k % 4);
-        let count = count_of(channels, k / 4 % 5) as usize;
-        x = there_and_back(
-            channels,
-            count,
-            syncs_of(k / 20 % 5),
-            k / 100,
-            x,
-            words,
-            back,
-            line,
-        );
-        k += 1;
-    }
-    x
+    h
 }
 
 fn flip_word(words: &mut [u32], p: usize, b: u32) {
@@ -284,126 +211,105 @@ fn flip_octet(line: &mut [u8], p: usize, b: usize) {
     }
 }
 
-// With parity changed, a mark on word 9 too; else nothing more.
-fn second_place(b: u32) -> usize {
-    if b == 31 {
-        return 9;
-    }
-    1000
-}
-
-// One bit of one word changed: parity, marks, and the two free bits.
-fn spoiled_word(seed: u32, c: u32, words: &mut [u32], line: &mut [u8]) {
-    fill_words(seed, words);
-    fill_octets(90, line);
-    flip_word(words, (c / 32 * 27 + c / 64) as usize, c % 32);
-    flip_word(words, second_place(c % 32), 0);
-    write_some(56, words, 56, 3, 1, line, 300);
-}
-
-fn spoiled_words(seed: u32, words: &mut [u32], line: &mut [u8]) {
-    let mut c: u32 = 0;
-    while c < 96 {
-        spoiled_word(seed, c, words, line);
-        c += 1;
-    }
-}
-
-// Lengths that are not as stated, and spare bits that are not 0.
-fn lengths_written(seed: u32, words: &mut [u32], line: &mut [u8]) {
-    fill_words(seed, words);
-    fill_octets(0, line);
-    write_some(56, words, 3, 2, 0, line, 282);
-    write_some(56, words, 3, 3, 0, line, 284);
-    write_some(56, words, 3, 2, 0, line, 283);
-}
-
-fn lengths_read(back: &mut [u32], line: &[u8]) {
-    fill_back(7, back);
-    read_some(56, 0, 2260, line, 282, back, 56);
-    read_some(56, 0, 2260, line, 284, back, 56);
-    read_some(56, 0, 2260, line, 283, back, 55);
-    read_some(56, 0, 2260, line, 283, back, 57);
-}
-
-fn bits_read(back: &mut [u32], line: &[u8]) {
-    read_some(56, 0, 2259, line, 283, back, 56);
-    read_some(56, 0, 2261, line, 283, back, 56);
-    read_some(56, 0, 0, line, 0, back, 56);
-    read_some(56, 0, 5111, line, 639, back, 56);
-    read_some(56, 2, 2260, line, 283, back, 56);
-}
-
-fn spare_read(back: &mut [u32], line: &mut [u8]) {
-    flip_octet(line, 282, 0);
-    read_some(56, 0, 2260, line, 283, back, 56);
-    flip_octet(line, 282, 0);
-    flip_octet(line, 282, 3);
-    read_some(56, 0, 2260, line, 283, back, 56);
-}
-
-fn lengths(seed: u32, words: &mut [u32], back: &mut [u32], line: &mut [u8]) {
-    lengths_written(seed, words, line);
-    lengths_read(back, line);
-    bits_read(back, line);
-    spare_read(back, line);
-}
-
-fn read_part(h: u64, level: u32, line: &[u8], back: &mut [u32]) -> u64 {
-    if 283 <= line.len() {
-        if 56 <= back.len() {
-            return read_sum(h, 56, level, 2260, &line[..283], &mut back[..56]);
+// A sum that is shown now and then.
+fn tell(c: usize, every: usize, h: u64) {
+    if 0 < every {
+        if c % every == 0 {
+            io::write_all(1, b"d");
+            number(h);
+            end();
         }
     }
-    h
 }
 
-// A damaged line, read as a sum.
-fn damage(h: u64, level: u32, c: usize, line: &mut [u8], back: &mut [u32]) -> u64 {
-    flip_octet(line, c / 8, 7 - c % 8);
-    fill_back(9, back);
-    let g = read_part(h, level, line, back);
-    flip_octet(line, c / 8, 7 - c % 8);
-    g
+// ---- a line, unit by unit
+
+// The level before a symbol of a line.
+fn level_before(line: &[u8], level: u32, at: usize) -> u64 {
+    if at == 0 {
+        return wide(level) % 2;
+    }
+    let p = at - 1;
+    if p / 8 < line.len() {
+        return (wide8(line[p / 8]) >> (7 - p % 8)) % 2;
+    }
+    0
 }
 
-fn tell(c: usize, h: u64) {
-    if c % 113 == 112 {
-        io::write_all(1, b"d");
-        number(h);
-        end();
+fn turn(line: &mut [u8], at: usize, x: u64) {
+    if x % 2 == 1 {
+        flip_octet(line, at / 8, 7 - at % 8);
+        return;
     }
 }
 
-// Every symbol of a frame changed by itself.
-fn damaged(level: u32, seed: u32, words: &mut [u32], back: &mut [u32], line: &mut [u8]) {
-    fill_words(seed, words);
-    fill_octets(0, line);
-    write_some(56, words, 3, 2, level, line, 283);
-    let mut h: u64 = 0;
+// One bit more, on a line that is 0 from there on: a 1 changes the level.
+fn put(line: &mut [u8], level: u32, at: usize, bit: u64) -> usize {
+    if at < 8000 {
+        turn(line, at, level_before(line, level, at) ^ bit);
+        return at + 1;
+    }
+    at
+}
+
+// The lowest n bits of v, the highest first.
+fn put_bits(line: &mut [u8], level: u32, from: usize, v: u64, n: usize) -> usize {
+    let mut at = from;
+    let mut k: usize = 0;
+    while k < n {
+        at = put(line, level, at, v >> ((n - 1 - k) % 64));
+        k += 1;
+    }
+    at
+}
+
+fn put_syncs(line: &mut [u8], level: u32, from: usize, count: u32) -> usize {
+    let mut at = from;
+    let mut k: u32 = 0;
+    while k < count {
+        at = put_bits(line, level, at, 0b1100010001, 10);
+        k += 1;
+    }
+    at
+}
+
+// Syncs after some of the channels.
+fn put_between(line: &mut [u8], level: u32, at: usize, c: usize, count: u32) -> usize {
+    if c % 9 == 4 {
+        return put_syncs(line, level, at, count);
+    }
+    at
+}
+
+fn flip_of(c: usize, place: usize, flip: u64) -> u64 {
+    if c == place {
+        return flip;
+    }
+    0
+}
+
+// The channels of these words, with syncs between some of them; the 40 bits of the channel at a place changed.
+fn put_channels(
+    line: &mut [u8],
+    level: u32,
+    from: usize,
+    words: &[u32],
+    between: u32,
+    place: usize,
+    flip: u64,
+) -> usize {
+    let mut at = from;
     let mut c: usize = 0;
-    while c < 2260 {
-        h = damage(h, level, c, line, back);
-        tell(c, h);
+    while c < words.len() {
+        let bits = madi_code::channel_bits(words[c]) ^ flip_of(c, place, flip);
+        at = put_bits(line, level, at, bits, 40);
+        at = put_between(line, level, at, c, between);
         c += 1;
     }
+    at
 }
 
 fn main() {
-    let mut words = [0u32; 66];
-    let mut back = [7u32; 66];
-    let mut line = [0u8; 640];
-    all(&mut words, &mut back, &mut line);
-}
-
-fn all(words: &mut [u32], back: &mut [u32], line: &mut [u8]) {
-    let x = edges(1, words, back, line);
-    spoiled_words(x, words, line);
-    lengths(x, words, back, line);
-    both_levels(x, words, back, line);
-}
-
-fn both_levels(x: u32, words: &mut [u32], back: &mut [u32], line: &mut [u8]) {
-    damaged(0, x, words, back, line);
-    damaged(1, x, words, back, line);
+    frames::cases();
+    units::cases();
 }

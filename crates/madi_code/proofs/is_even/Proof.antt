@@ -1,15 +1,12 @@
--- `madi_code::is_even` meets its contract. Assumes nothing.
-use borrow.Author.Needs.{needs}
+-- `madi_code::is_even` meets its contract: the language's count of ones is the count of the slots. Assumes nothing.
+use Rattle.subframe.proofs.BodyLaws.{count-slots}
 use Rattle.madi_code.specs.Frame.{evenBody}
 use Rattle.madi_code.proofs.is_even.Statement.{statement}
 use Rattle.madi_code.proofs.is_even.Tie as tie
 
-body-parity-requires : tie.Need-body-parity-requires
-body-parity-requires c κs = search needs
-
 returns : tie.Need-returns
 unfolding evenBody
-returns c = rw (c .body-parity .ensures)
+returns c = rw (count-slots (c .args .w) (c .fits .w .fits))
 
 pub is-even-spec : {M : Type 1} → statement M
-is-even-spec = tie.close (tie.spec body-parity-requires returns)
+is-even-spec = tie.close (tie.spec returns)

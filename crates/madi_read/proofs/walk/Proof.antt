@@ -1,7 +1,7 @@
 -- `madi_read::walk` meets its contract: what is left to read is what the definition has left. Assumes nothing.
-use mathlib.Core.Path.{_≡_, refl, sym, ap, _∙_, subst}
-use mathlib.Core.List.{List, [], _∷_, _++_}
-use Prim.Native.Nat.{ℕ, _+_, _*_, _-_, _/_, _%_, _^_, _≤_, _<_}
+use mathlib.Core.Path.{_≡_, sym, ap, _∙_, subst}
+use mathlib.Core.List.{List}
+use Prim.Native.Nat.{ℕ, _+_, _-_, _/_, _%_, _≤_, _<_}
 use native.Mathlib.Numerals.{add-one}
 use native.Mathlib.Nat.{sub-zero}
 use native.Mathlib.Omega.{arith}
@@ -10,7 +10,7 @@ use lib.ListN.{length, take, set, length-set}
 use lib.Seq.{take-suc-set}
 use Rattle.bits.specs.Row.{Row}
 use Rattle.madi_code.specs.Frame.{boundary}
-use Rattle.madi_read.specs.Reader.{carried, pieceAt, Reading, cleared, next, readFrom, readRow, answerOf}
+use Rattle.madi_read.specs.Reader.{carried, Reading, cleared, next, readFrom, readRow, answerOf}
 use Rattle.madi_read.specs.Inner.{Held}
 use Rattle.madi_read.specs.declared.Piece.{Piece}
 use Rattle.madi_read.specs.declared.Piece.the-variants.{End, Sync, Slot, Bad}
@@ -30,32 +30,81 @@ abbrev μ-loop : tie.MeasureT-loop
 octets-requires : tie.Need-octets-requires Inv-loop μ-loop
 octets-requires c κs = search needs
 
-width : (c : tie.After-piece-at Inv-loop μ-loop)
-    → length (carried (c .before .before .before .before .before .before .args .level) (c .before .before .before .before .before .before .args .bits) (c .before .before .before .before .before .before .args .line .now)) ≡ c .before .before .before .before .before .before .args .bits
-width c = let a = c .before .before .before .before .before .before .args in length-carried (a .level) (a .bits) (a .line .now)
-
--- what a piece that the code found says: the room around it, and how the definition's reading goes on
-step : (c : tie.After-piece-at Inv-loop μ-loop) (p : Piece) → c .piece-at .result ≡ p
-    → Room (carried (c .before .before .before .before .before .before .args .level) (c .before .before .before .before .before .before .args .bits) (c .before .before .before .before .before .before .args .line .now)) (c .before .before .before .before .before .before .args .channels)
-    (c .before .before .loop .n) (c .before .before .loop .active) (c .before .before .loop .s) p
-    × (next (readFrom (carried (c .before .before .before .before .before .before .args .level) (c .before .before .before .before .before .before .args .bits) (c .before .before .before .before .before .before .args .line .now)) (c .before .before .before .before .before .before .args .channels)
-    (c .before .before .before .before .before .before .args .channels + 256 - (c .before .before .loop .n + c .before .before .loop .s + 1)))
-    p (c .before .before .loop .n) (c .before .before .loop .active) (c .before .before .loop .s) (take (c .before .before .loop .n) (c .before .before .loop .held))
-    ≡ readRow (carried (c .before .before .before .before .before .before .args .level) (c .before .before .before .before .before .before .args .bits) (c .before .before .before .before .before .before .args .line .now)) (c .before .before .before .before .before .before .args .channels))
-step c p e =
-    let a = c .before .before .before .before .before .before .args in
-    let l = c .before .before .loop in
-    let r : Row = carried (a .level) (a .bits) (a .line .now) in (
-      subst (Room r (a .channels) (l .n) (l .active) (l .s)) (sym (c .piece-at .ensures) ∙ e) (room r (a .channels) (l .n) (l .active) (l .s)),
-      sym (read-step r (a .channels) (l .n) (l .active) (l .s) (omega arith) (omega arith) (take (l .n) (l .held)) p (sym (c .piece-at .ensures) ∙ e)) ∙ l .inv .5,
-    )
-
 loop-holds : tie.Need-loop-holds Inv-loop μ-loop
 unfolding readRow
 loop-holds c = (search needs, search needs, search needs, search needs, search needs, rw sub-zero)
 
+channels-on-requires : tie.Need-channels-on-requires Inv-loop μ-loop
+channels-on-requires c κs = (c .before .before .before .octets .ensures, search needs, search needs, search needs, search needs, search needs, search needs, search needs)
+
+sub-active : tie.Need-sub-active Inv-loop μ-loop
+sub-active c = search needs
+
+add-active : tie.Need-add-active Inv-loop μ-loop
+add-active c = search needs
+
+syncs-on-requires : tie.Need-syncs-on-requires Inv-loop μ-loop
+syncs-on-requires c κs = (search needs, search needs, search needs, search needs, search needs, c .before .before .channels-on .ensures .2)
+
+-- the channel count and the active count after channels on end, and the words
+abbrev count : tie.After-syncs-on Inv-loop μ-loop → ℕ
+count c = c .before .before .before .channels-on .result
+
+abbrev live : tie.After-syncs-on Inv-loop μ-loop → ℕ
+live c = c .before .before .before .before .before .before .loop .active + (count c - c .before .before .before .before .before .before .loop .n)
+
+abbrev kept : tie.After-syncs-on Inv-loop μ-loop → List ℕ
+kept c = c .before .before .before .channels-on .last .1 .1 .1 .1 .1 .1 .1 .0
+
+abbrev row : tie.After-syncs-on Inv-loop μ-loop → Row
+row c = carried (c .before .before .before .before .before .before .before .before .before .before .args .level) (c .before .before .before .before .before .before .before .before .before .before .args .bits) (c .before .before .before .before .before .before .before .before .before .before .args .line .now)
+
+-- after channels and syncs on end all stands as at the head of the loop
+record Stands (c : tie.After-syncs-on Inv-loop μ-loop) : Type 0 where
+  most : count c ≤ c .before .before .before .before .before .before .before .before .before .before .args .channels
+  few : c .syncs-on .result ≤ 255
+  inside : boundary (count c) (c .syncs-on .result) ≤ c .before .before .before .before .before .before .before .before .before .before .args .bits
+  further : boundary (c .before .before .before .before .before .before .loop .n) (c .before .before .before .before .before .before .loop .s) ≤ boundary (count c) (c .syncs-on .result)
+  actives : live c ≤ count c
+  long : length (kept c) ≡ 64
+  reads : readFrom (row c) (c .before .before .before .before .before .before .before .before .before .before .args .channels) (c .before .before .before .before .before .before .before .before .before .before .args .channels + 256 - (count c + c .syncs-on .result)) (count c) (live c) (c .syncs-on .result) (take (count c) (kept c))
+      ≡ readRow (row c) (c .before .before .before .before .before .before .before .before .before .before .args .channels)
+
+stands : (c : tie.After-syncs-on Inv-loop μ-loop) → Stands c
+stands c =
+    let a = c .before .before .before .before .before .before .before .before .before .before .args in
+    let l = c .before .before .before .before .before .before .loop in
+    let h = c .before .before .before .channels-on .ensures in
+    let t = c .syncs-on .ensures in
+    record {
+      most = h .1;
+      few = t .1;
+      inside = t .2;
+      further = omega (arith, h .0, t .0);
+      actives = omega (arith, h .0, l .inv .3);
+      long = h .3;
+      reads = t .3 (a .level) (live c) (take (count c) (kept c)) ∙ h .4 (a .level) ∙ l .inv .5;
+    }
+
 piece-at-requires : tie.Need-piece-at-requires Inv-loop μ-loop
-piece-at-requires c κs = (c .before .before .octets .ensures, search needs, search needs, search needs, search needs)
+piece-at-requires c κs = (c .before .before .before .before .before .before .before .before .octets .ensures, search needs, search needs, search needs, stands (c .before) .inside)
+
+width : (c : tie.After-syncs-on Inv-loop μ-loop) → length (row c) ≡ c .before .before .before .before .before .before .before .before .before .before .args .bits
+width c = let a = c .before .before .before .before .before .before .before .before .before .before .args in length-carried (a .level) (a .bits) (a .line .now)
+
+-- what a piece that the code found says: the room around it, and how the definition's reading goes on
+step : (c : tie.After-piece-at Inv-loop μ-loop) (p : Piece) → c .piece-at .result ≡ p
+    → Room (row (c .before .before)) (c .before .before .before .before .before .before .before .before .before .before .before .before .args .channels) (count (c .before .before)) (live (c .before .before)) (c .before .before .syncs-on .result) p
+    × (next (readFrom (row (c .before .before)) (c .before .before .before .before .before .before .before .before .before .before .before .before .args .channels) (c .before .before .before .before .before .before .before .before .before .before .before .before .args .channels + 256 - (count (c .before .before) + c .before .before .syncs-on .result + 1)))
+    p (count (c .before .before)) (live (c .before .before)) (c .before .before .syncs-on .result) (take (count (c .before .before)) (kept (c .before .before)))
+    ≡ readRow (row (c .before .before)) (c .before .before .before .before .before .before .before .before .before .before .before .before .args .channels))
+step c p e =
+    let d = c .before .before in
+    let a = d .before .before .before .before .before .before .before .before .before .before .args in
+    let g = stands d in (
+      subst (Room (row d) (a .channels) (count d) (live d) (d .syncs-on .result)) (sym (c .piece-at .ensures) ∙ e) (room (row d) (a .channels) (count d) (live d) (d .syncs-on .result)),
+      sym (read-step (row d) (a .channels) (count d) (live d) (d .syncs-on .result) (g .most) (g .few) (take (count d) (kept d)) p (sym (c .piece-at .ensures) ∙ e)) ∙ g .reads,
+    )
 
 enum-told : tie.Need-enum-told Inv-loop μ-loop
 enum-told c = search needs
@@ -65,11 +114,11 @@ same-length c = search needs
 
 returns : tie.Need-returns Inv-loop μ-loop
 returns c =
-    let b = c .before .before .before .before in
-    let a = b .before .before .before .before .args in
+    let d = c .before .before .before .before in
+    let a = d .before .before .before .before .before .before .before .before .before .before .args in
     let q = step (c .before .before) End (c .enum-told .given .1) in (
       ap answerOf (q .1),
-      subst (λ (r : Reading). Held (a .channels) r (b .loop .held)) (q .1) (ap (λ (k : ℕ). take k (b .loop .held)) (sym (q .0 .0))),
+      subst (λ (r : Reading). Held (a .channels) r (kept d)) (q .1) (ap (λ (k : ℕ). take k (kept d)) (sym (q .0 .0))),
     )
 
 enum-told-2 : tie.Need-enum-told-2 Inv-loop μ-loop
@@ -79,20 +128,22 @@ add-s : tie.Need-add-s Inv-loop μ-loop
 add-s c = search needs
 
 loop-less : tie.Need-loop-less Inv-loop μ-loop
-loop-less c = omega (arith, step (c .before .before) Sync (c .enum-told2 .given .1) .0, width (c .before .before))
+loop-less c =
+    let d = c .before .before .before .before in
+    omega (arith, step (c .before .before) Sync (c .enum-told2 .given .1) .0, width d, stands d .further)
 
 loop-again : tie.Need-loop-again Inv-loop μ-loop
 loop-again c =
-    let b = c .before .before .before .before in
-    let a = b .before .before .before .before .args in
-    let r : Row = carried (a .level) (a .bits) (a .line .now) in
+    let d = c .before .before .before .before in
+    let a = d .before .before .before .before .before .before .before .before .before .before .args in
+    let g = stands d in
     let q = step (c .before .before) Sync (c .enum-told2 .given .1) in (
-      omega arith,
+      g .most,
       omega (arith, q .0),
-      omega (arith, q .0, width (c .before .before)),
-      omega arith,
-      b .loop .inv .4,
-      ap (λ (k : ℕ). readFrom r (a .channels) k (b .loop .n) (b .loop .active) (b .loop .s + 1) (take (b .loop .n) (b .loop .held))) (omega arith) ∙ q .1,
+      omega (arith, q .0, width d),
+      g .actives,
+      g .long,
+      ap (λ (k : ℕ). readFrom (row d) (a .channels) k (count d) (live d) (d .syncs-on .result + 1) (take (count d) (kept d))) (omega arith) ∙ q .1,
     )
 
 enum-known-p : tie.Need-enum-known-p Inv-loop μ-loop
@@ -108,33 +159,37 @@ mul-held : tie.Need-mul-held Inv-loop μ-loop
 mul-held c = search needs
 
 slice-write-held : tie.Need-slice-write-held Inv-loop μ-loop
-slice-write-held c = omega (arith, step (c .before .before .before) (Slot (c .before .p .given .0 .0)) (c .before .p .given .1) .0, width (c .before .before .before))
+slice-write-held c =
+    let d = c .before .before .before .before .before in
+    omega (arith, step (c .before .before .before) (Slot (c .before .p .given .0 .0)) (c .before .p .given .1) .0, stands d .most, stands d .long)
 
-add-active : tie.Need-add-active Inv-loop μ-loop
-add-active c = search needs
+add-active-2 : tie.Need-add-active-2 Inv-loop μ-loop
+add-active-2 c = search needs
 
 add-n : tie.Need-add-n Inv-loop μ-loop
 add-n c = search needs
 
 loop-less-2 : tie.Need-loop-less-2 Inv-loop μ-loop
-loop-less-2 c = omega (arith, step (c .before .before .before) (Slot (c .before .p .given .0 .0)) (c .before .p .given .1) .0, width (c .before .before .before))
+loop-less-2 c =
+    let d = c .before .before .before .before .before in
+    omega (arith, step (c .before .before .before) (Slot (c .before .p .given .0 .0)) (c .before .p .given .1) .0, width d, stands d .further)
 
 loop-again-2 : tie.Need-loop-again-2 Inv-loop μ-loop
 loop-again-2 c =
     let w = c .before .p .given .0 .0 in
-    let b = c .before .before .before .before .before in
-    let a = b .before .before .before .before .args in
-    let r : Row = carried (a .level) (a .bits) (a .line .now) in
+    let d = c .before .before .before .before .before in
+    let a = d .before .before .before .before .before .before .before .before .before .before .args in
+    let g = stands d in
     let q = step (c .before .before .before) (Slot w) (c .before .p .given .1) in
-    let h : b .loop .n < length (b .loop .held) = omega (arith, q .0) in (
-      omega (arith, q .0),
-      omega arith,
-      omega (arith, q .0, width (c .before .before .before)),
-      omega arith,
-      length-set (b .loop .held) (b .loop .n) (cleared w) ∙ b .loop .inv .4,
-      ap (λ (k : ℕ). readFrom r (a .channels) k (b .loop .n + 1) (b .loop .active + w / 2 % 2) (b .loop .s) (take (b .loop .n + 1) (set (b .loop .held) (b .loop .n) (cleared w)))) (omega arith)
-          ∙ ap (λ (t : List ℕ). readFrom r (a .channels) (a .channels + 256 - (b .loop .n + b .loop .s + 1)) (b .loop .n + 1) (b .loop .active + w / 2 % 2) (b .loop .s) t)
-          (ap (λ (k : ℕ). take k (set (b .loop .held) (b .loop .n) (cleared w))) (add-one (b .loop .n)) ∙ take-suc-set (b .loop .held) (b .loop .n) (cleared w) h)
+    let h : count d < length (kept d) = omega (arith, q .0, g .most, g .long) in (
+      omega (arith, q .0, g .most),
+      g .few,
+      omega (arith, q .0, width d),
+      omega (arith, g .actives),
+      length-set (kept d) (count d) (cleared w) ∙ g .long,
+      ap (λ (k : ℕ). readFrom (row d) (a .channels) k (count d + 1) (live d + w / 2 % 2) (d .syncs-on .result) (take (count d + 1) (set (kept d) (count d) (cleared w)))) (omega arith)
+          ∙ ap (λ (t : List ℕ). readFrom (row d) (a .channels) (a .channels + 256 - (count d + d .syncs-on .result + 1)) (count d + 1) (live d + w / 2 % 2) (d .syncs-on .result) t)
+          (ap (λ (k : ℕ). take k (set (kept d) (count d) (cleared w))) (add-one (count d)) ∙ take-suc-set (kept d) (count d) (cleared w) h)
           ∙ q .1,
     )
 
@@ -147,10 +202,10 @@ same-length-2 c = search needs
 returns-2 : tie.Need-returns-2 Inv-loop μ-loop
 returns-2 c =
     let v = c .before .p2 .given .0 in
-    let b = c .before .before .before .before .before in
-    let a = b .before .before .before .before .args in
+    let d = c .before .before .before .before .before in
+    let a = d .before .before .before .before .before .before .before .before .before .before .args in
     let q = step (c .before .before .before) (Bad (v .0) (v .1 .0)) (c .before .p2 .given .1) in
-    (ap answerOf (q .1), subst (λ (r : Reading). Held (a .channels) r (b .loop .held)) (q .1) tt)
+    (ap answerOf (q .1), subst (λ (r : Reading). Held (a .channels) r (kept d)) (q .1) tt)
 
 pub walk-spec : {M : Type 1} → statement M
 walk-spec =
@@ -160,6 +215,10 @@ walk-spec =
     μ-loop
     octets-requires
     loop-holds
+    channels-on-requires
+    sub-active
+    add-active
+    syncs-on-requires
     piece-at-requires
     enum-told
     same-length
@@ -173,7 +232,7 @@ walk-spec =
     cast-held
     mul-held
     slice-write-held
-    add-active
+    add-active-2
     add-n
     loop-less-2
     loop-again-2

@@ -1,11 +1,11 @@
--- `trial_madi::damaged` is safe and ends. Assumes nothing.
+-- `trial_madi::frames::damaged` is safe and ends. Assumes nothing.
 use Prim.Native.Nat.{_-_, _*_, _≤_, _<_}
 use mathlib.Core.Path.{_≡_, refl}
 use native.Mathlib.Omega.{arith}
 use borrow.Author.Needs.{needs}
 use lib.ListN.{length}
-use Rattle.trial_madi.proofs.damaged.Statement.{statement}
-use Rattle.trial_madi.proofs.damaged.Tie as tie
+use Rattle.trial_madi.proofs.frames.damaged.Statement.{statement}
+use Rattle.trial_madi.proofs.frames.damaged.Tie as tie
 
 abbrev Inv-loop : tie.InvT-loop
 Inv-loop level seed words back₀ line₀ h₀ c₀ back line h c = (c ≤ 2260) × (length back ≡ length back₀) × (length line ≡ length line₀)
@@ -28,11 +28,11 @@ loop-holds c = search needs
 damage-requires : tie.Need-damage-requires Inv-loop μ-loop
 damage-requires c κs = search needs
 
-tell-requires : tie.Need-tell-requires Inv-loop μ-loop
-tell-requires c κs = search needs
-
 add-c : tie.Need-add-c Inv-loop μ-loop
 add-c c = search needs
+
+tell-requires : tie.Need-tell-requires Inv-loop μ-loop
+tell-requires c κs = search needs
 
 loop-less : tie.Need-loop-less Inv-loop μ-loop
 loop-less c = search needs
@@ -63,8 +63,8 @@ damaged-spec =
     write-some-requires
     loop-holds
     damage-requires
-    tell-requires
     add-c
+    tell-requires
     loop-less
     loop-again
     same-length

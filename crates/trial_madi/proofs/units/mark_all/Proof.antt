@@ -1,23 +1,23 @@
--- `trial_madi::spoiled_words` is safe and ends. Assumes nothing.
+-- `trial_madi::units::mark_all` is safe and ends. Assumes nothing.
 use Prim.Native.Nat.{_-_, _*_, _≤_, _<_}
 use mathlib.Core.Path.{_≡_, refl}
 use native.Mathlib.Omega.{arith}
 use borrow.Author.Needs.{needs}
 use lib.ListN.{length}
-use Rattle.trial_madi.proofs.spoiled_words.Statement.{statement}
-use Rattle.trial_madi.proofs.spoiled_words.Tie as tie
+use Rattle.trial_madi.proofs.units.mark_all.Statement.{statement}
+use Rattle.trial_madi.proofs.units.mark_all.Tie as tie
 
 abbrev Inv-loop : tie.InvT-loop
-Inv-loop seed words₀ line₀ c₀ words line c = (c ≤ 96) × (length words ≡ length words₀) × (length line ≡ length line₀)
+Inv-loop words₀ active c₀ words c = (c ≤ 66) × (length words ≡ length words₀)
 
 abbrev μ-loop : tie.MeasureT-loop
-μ-loop seed words₀ line₀ c₀ words line c = 96 - c
+μ-loop words₀ active c₀ words c = 66 - c
 
 loop-holds : tie.Need-loop-holds Inv-loop μ-loop
 loop-holds c = search needs
 
-spoiled-word-requires : tie.Need-spoiled-word-requires Inv-loop μ-loop
-spoiled-word-requires c κs = search needs
+mark-requires : tie.Need-mark-requires Inv-loop μ-loop
+mark-requires c κs = search needs
 
 add-c : tie.Need-add-c Inv-loop μ-loop
 add-c c = search needs
@@ -31,23 +31,19 @@ loop-again c = search needs
 same-length : tie.Need-same-length Inv-loop μ-loop
 same-length c = search needs
 
-same-length-2 : tie.Need-same-length-2 Inv-loop μ-loop
-same-length-2 c = search needs
-
 returns : tie.Need-returns Inv-loop μ-loop
 returns c = search needs
 
-pub spoiled-words-spec : {M : Type 1} → statement M
-spoiled-words-spec =
+pub mark-all-spec : {M : Type 1} → statement M
+mark-all-spec =
     tie.close
     (tie.spec
     Inv-loop
     μ-loop
     loop-holds
-    spoiled-word-requires
+    mark-requires
     add-c
     loop-less
     loop-again
     same-length
-    same-length-2
     returns)

@@ -1,11 +1,11 @@
--- `trial_madi::edges` is safe and ends. Assumes nothing.
+-- `trial_madi::frames::edges` is safe and ends. Assumes nothing.
 use Prim.Native.Nat.{_-_, _*_, _≤_, _<_}
 use mathlib.Core.Path.{_≡_, refl}
 use native.Mathlib.Omega.{arith}
 use borrow.Author.Needs.{needs}
 use lib.ListN.{length}
-use Rattle.trial_madi.proofs.edges.Statement.{statement}
-use Rattle.trial_madi.proofs.edges.Tie as tie
+use Rattle.trial_madi.proofs.frames.edges.Statement.{statement}
+use Rattle.trial_madi.proofs.frames.edges.Tie as tie
 
 abbrev Inv-loop : tie.InvT-loop
 Inv-loop seed words₀ back₀ line₀ x₀ k₀ words back line x k = (k ≤ 300) × (length words ≡ length words₀) × (length back ≡ length back₀) × (length line ≡ length line₀)

@@ -1,4 +1,4 @@
--- `trial_madi::read_part` is safe and ends. Assumes nothing.
+-- `trial_madi::sum_some` is safe and ends. Assumes nothing.
 use Prim.Native.Nat.{_-_, _*_, _≤_, _<_}
 use mathlib.Core.Path.{_≡_, refl}
 use native.Mathlib.Omega.{arith}
@@ -6,17 +6,17 @@ use borrow.Author.Needs.{needs}
 use lib.ListN.{length}
 use mathlib.Core.Path.{sym}
 use lib.Seq.{length-take-le}
-use Rattle.trial_madi.proofs.read_part.Statement.{statement}
-use Rattle.trial_madi.proofs.read_part.Tie as tie
+use Rattle.trial_madi.proofs.sum_some.Statement.{statement}
+use Rattle.trial_madi.proofs.sum_some.Tie as tie
 
 slice-aggregate-read-sum : tie.Need-slice-aggregate-read-sum
-slice-aggregate-read-sum c = sym (length-take-le 283 (c .before .before .before .before .before .args .line .now) (omega arith))
+slice-aggregate-read-sum c = sym (length-take-le (c .before .before .before .before .before .args .n) (c .before .before .before .before .before .args .line .now) (omega arith))
 
 slice-relend-prefix-read-sum : tie.Need-slice-relend-prefix-read-sum
 slice-relend-prefix-read-sum c = search needs
 
 slice-aggregate-read-sum-2 : tie.Need-slice-aggregate-read-sum-2
-slice-aggregate-read-sum-2 c = sym (length-take-le 56 (c .before .before .before .before .before .before .args .back .now) (omega arith))
+slice-aggregate-read-sum-2 c = sym (length-take-le (c .before .before .before .before .before .before .args .slots) (c .before .before .before .before .before .before .args .words .now) (omega arith))
 
 read-sum-requires : tie.Need-read-sum-requires
 read-sum-requires c κs = search needs
@@ -33,8 +33,8 @@ returns-2 c = search needs
 returns-3 : tie.Need-returns-3
 returns-3 c = search needs
 
-pub read-part-spec : {M : Type 1} → statement M
-read-part-spec =
+pub sum-some-spec : {M : Type 1} → statement M
+sum-some-spec =
     tie.close
     (tie.spec
     slice-aggregate-read-sum
