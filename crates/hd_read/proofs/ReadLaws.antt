@@ -24,8 +24,8 @@ use Rattle.hd_read.specs.declared.SubframeAnswer.the-variants.{Body}
 use Rattle.hd_read.specs.declared.SubframeAnswer.the-variants.{Refused as NoBody}
 use Rattle.hd_read.specs.declared.ReadAnswer.{ReadAnswer}
 use Rattle.hd_read.specs.declared.ReadAnswer.the-variants.{Read, Refused}
-use Rattle.hd_read.specs.Read.{groupOf, wrongHead, wrongWord, sumRight, wrongSpare, subframeAt, oddChannel, fieldsIn, octetsRead, readAnswer, ifRead, bodiesRead}
-use Rattle.hd_read.specs.Inner.{bodiesTaken}
+use Rattle.hd_read.specs.Read.{wrongHead, wrongWord, sumRight, wrongSpare, subframeAt, oddChannel, fieldsIn, octetsRead, readAnswer, ifRead, bodiesRead}
+use Rattle.hd_read.specs.Inner.{bodiesTaken, rightRead}
 
 -- ---- a subframe
 
@@ -160,10 +160,10 @@ bodies-stored os old a b c d h p q r s = four-stored old a b c d h ∙ rw (p, q,
 
 -- the search over words 3 to 29, as a search over those 27 words
 module _ (words : List ℕ) (h : length words ≡ 31) where
-  abbrev run : List ℕ
+  abbrev pub run : List ℕ
   run = take 27 (drop 3 words)
 
-  length-run : length run ≡ 27
+  pub length-run : length run ≡ 27
   length-run = length-take-le 27 (drop 3 words) (omega (arith, length-drop 3 words))
 
   module _ (miss : ReadAnswer) (t : ℕ) (e : t ≡ firstWrong run) where
@@ -190,7 +190,7 @@ module _ (words : List ℕ) (h : length words ≡ 31) where
     none-wrong l = shifted ∙ first-nowhere (λ i. not (wordRight (getD run i 0))) (λ i. Refused 14 (3 + i)) miss 27 t place l
 
 module _ (words old : List ℕ) where
-  abbrev verdict : ReadAnswer
+  abbrev pub verdict : ReadAnswer
   verdict = readAnswer words (length old)
 
   pub read-after : (a : ReadAnswer) → a ≡ verdict → ifRead a (bodiesIn (octetsOf words)) old ≡ bodiesRead words old
@@ -210,53 +210,55 @@ module _ (words old : List ℕ) where
     unfolding octetsTaken
     taken = rw (le-leb 30 (length words) (omega arith))
 
-    abbrev by-sum : ReadAnswer
-    by-sum = pick (sumRight words) (octetsRead (groupOf (getD words 3 0)) (octetsOf words)) (Refused 16 30)
+    abbrev pub by-sum : ReadAnswer
+    by-sum = pick (sumRight words) (rightRead words) (Refused 16 30)
 
-    abbrev by-words : ReadAnswer
+    abbrev pub by-words : ReadAnswer
     by-words = first (wrongWord words) 3 27 (λ k. Refused 14 k) by-sum
 
-    abbrev by-head : ReadAnswer
+    abbrev pub by-head : ReadAnswer
     by-head = pick (ltb (wrongHead words) 31) (Refused 13 (wrongHead words)) by-words
 
-    module _ (room : length old ≡ 4) (r : ℕ) (e : r ≡ firstWide words) where
-      wide-place : r ≡ first (λ k. wide (getD words k 0)) 0 31 (λ i. i) 31
+    -- each search in turn: the place r that it gave
+    module _ (r : ℕ) where
+      wide-place : r ≡ firstWide words → r ≡ first (λ k. wide (getD words k 0)) 0 31 (λ i. i) 31
       unfolding firstWide
-      wide-place = rw h at e
+      wide-place e = rw h at e
 
-      pub wide-word : r < 31 → Refused 14 r ≡ verdict
-      unfolding readAnswer
-      wide-word l =
+      pub wide-word : length old ≡ 4 → r ≡ firstWide words → r < 31 → Refused 14 r ≡ verdict
+      unfolding readAnswer rightRead
+      wide-word room e l =
           rw (eq-eqb (length words) 31 h, eq-eqb (length old) 4 room)
-          (sym (first-place (λ k. wide (getD words k 0)) (λ k. Refused 14 k) by-head 31 r wide-place l))
+          (sym (first-place (λ k. wide (getD words k 0)) (λ k. Refused 14 k) by-head 31 r (wide-place e) l))
 
-      module _ (none : 31 ≤ r) (s : ℕ) (f : s ≡ wrongHead words) where
-        head-left : verdict ≡ pick (ltb s 31) (Refused 13 s) by-words
-        unfolding readAnswer
-        head-left =
-            rw (eq-eqb (length words) 31 h, eq-eqb (length old) 4 room)
-            (first-nowhere (λ k. wide (getD words k 0)) (λ k. Refused 14 k) by-head 31 r wide-place none
-            ∙ ap (λ (t : ℕ). pick (ltb t 31) (Refused 13 t) by-words) (sym f))
+      pub none-wide : length old ≡ 4 → r ≡ firstWide words → 31 ≤ r → verdict ≡ by-head
+      unfolding readAnswer rightRead
+      none-wide room e l =
+          rw (eq-eqb (length words) 31 h, eq-eqb (length old) 4 room)
+          (first-nowhere (λ k. wide (getD words k 0)) (λ k. Refused 14 k) by-head 31 r (wide-place e) l)
 
-        pub head-word : s < 31 → Refused 13 s ≡ verdict
-        head-word l = sym (head-left ∙ rw (lt-ltb s 31 l))
+      module _ (left : verdict ≡ by-head) (e : r ≡ wrongHead words) where
+        head-left : verdict ≡ pick (ltb r 31) (Refused 13 r) by-words
+        head-left = left ∙ ap (λ (t : ℕ). pick (ltb t 31) (Refused 13 t) by-words) (sym e)
 
-        module _ (listed : 31 ≤ s) (t : ℕ) (g : t ≡ firstWrong (take 27 (drop 3 words))) where
-          words-left : verdict ≡ by-words
-          words-left = head-left ∙ rw (le-ltb s 31 listed)
+        pub head-word : r < 31 → Refused 13 r ≡ verdict
+        head-word l = sym (head-left ∙ rw (lt-ltb r 31 l))
 
-          pub wrong-word : t < 27 → Refused 14 (t + 3) ≡ verdict
-          wrong-word l = sym (words-left ∙ found-wrong words h by-sum t g l)
+        pub head-listed : 31 ≤ r → verdict ≡ by-words
+        head-listed l = head-left ∙ rw (le-ltb r 31 l)
 
-          module _ (right : 27 ≤ t) (v : ℕ) (q : v ≡ checkWord (take 27 (drop 3 words))) where
-            sum-left : verdict ≡ by-sum
-            sum-left = words-left ∙ none-wrong words h by-sum t g right
+      module _ (left : verdict ≡ by-words) (e : r ≡ firstWrong (run words h)) where
+        pub wrong-word : r < 27 → Refused 14 (r + 3) ≡ verdict
+        wrong-word l = sym (left ∙ found-wrong words h by-sum r e l)
 
-            pub wrong-sum : (getD words 30 0 ≡ v → ⊥) → Refused 16 30 ≡ verdict
-            unfolding sumRight
-            wrong-sum n =
-                sym (sum-left ∙ rw (ne-eqb (getD words 30 0) (checkWord (take 27 (drop 3 words))) (λ w. n (w ∙ sym q))))
+        pub words-coded : 27 ≤ r → verdict ≡ by-sum
+        words-coded l = left ∙ none-wrong words h by-sum r e l
 
-            pub words-right : getD words 30 0 ≡ v → verdict ≡ octetsRead (groupOf (getD words 3 0)) (octetsOf words)
-            unfolding sumRight
-            words-right w = sum-left ∙ rw (eq-eqb (getD words 30 0) (checkWord (take 27 (drop 3 words))) (w ∙ q))
+      module _ (left : verdict ≡ by-sum) (e : r ≡ checkWord (run words h)) where
+        pub wrong-sum : (getD words 30 0 ≡ r → ⊥) → Refused 16 30 ≡ verdict
+        unfolding sumRight
+        wrong-sum n = sym (left ∙ rw (ne-eqb (getD words 30 0) (checkWord (run words h)) (λ w. n (w ∙ sym e))))
+
+        pub words-right : getD words 30 0 ≡ r → verdict ≡ rightRead words
+        unfolding sumRight
+        words-right w = left ∙ rw (eq-eqb (getD words 30 0) (checkWord (run words h)) (w ∙ e))

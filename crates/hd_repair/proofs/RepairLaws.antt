@@ -1,5 +1,5 @@
 -- The answer of packet repair, test by test. Assumes nothing.
-use mathlib.Core.Path.{_≡_, refl, sym, ap, _∙_}
+use mathlib.Core.Path.{_≡_, refl, sym, ap, ap₂, _∙_}
 use mathlib.Core.List.{List}
 use Prim.Native.Nat.{ℕ, _+_, _≤_, _<_}
 use native.Mathlib.Omega.{arith}
@@ -23,7 +23,7 @@ use Rattle.hd_repair.specs.Repair.{repairedOctets, adfAnswer, repairAnsw
 
 -- ---- by the answer of the lanes
 
-abbrev byLanes : RepairAnswer → MendAnswer → RepairAnswer
+abbrev pub byLanes : RepairAnswer → MendAnswer → RepairAnswer
 byLanes right (Mended n) = right
 byLanes right (NoLane i) = Refused 15 i
 
@@ -46,7 +46,7 @@ counted os n h e =
     never i q = let z : _≡_ {A = ℕ} 0 1 = cc in omega arith
 
 module _ (words old : List ℕ) where
-  abbrev answer : RepairAnswer
+  abbrev pub answer : RepairAnswer
   answer = repairAnswer words (length old)
 
   pub words-after : (a : RepairAnswer) → a ≡ answer → ifRepaired a (packetRepaired words) old ≡ wordsRepaired words old
@@ -73,13 +73,13 @@ module _ (words old : List ℕ) where
     unfolding octetsTaken
     taken = rw (le-leb 30 (length words) (omega arith))
 
+    abbrev pub right : RepairAnswer
+    right = adfAnswer (repairedOctets words) (Repaired (lanesApart 8 (repairedOctets words) os))
+
     module _ (room : length old ≡ 31) (r : ℕ) (e : r ≡ firstWide words) where
       wide-place : r ≡ first (λ k. wide (getD words k 0)) 0 31 (λ i. i) 31
       unfolding firstWide
       wide-place = rw h at e
-
-      abbrev right : RepairAnswer
-      right = adfAnswer (repairedOctets words) (Repaired (lanesApart 8 (repairedOctets words) os))
 
       pub wide-word : r < 31 → Refused 14 r ≡ answer
       unfolding repairAnswer
@@ -87,53 +87,53 @@ module _ (words old : List ℕ) where
           rw (eq-eqb (length words) 31 h, eq-eqb (length old) 31 room)
           (sym (first-place (λ k. wide (getD words k 0)) (λ k. Refused 14 k) (first (hopelessAt os) 0 8 (λ i. Refused 15 i) right) 31 r wide-place l))
 
-      module _ (none : 31 ≤ r) where
-        lanes-left : answer ≡ byLanes right (mendAnswer os)
-        unfolding repairAnswer
-        lanes-left =
-            rw (eq-eqb (length words) 31 h, eq-eqb (length old) 31 room)
-            (first-nowhere (λ k. wide (getD words k 0)) (λ k. Refused 14 k) (first (hopelessAt os) 0 8 (λ i. Refused 15 i) right) 31 r wide-place none
-            ∙ by-lanes os right long)
+      pub none-wide : 31 ≤ r → answer ≡ byLanes right (mendAnswer os)
+      unfolding repairAnswer
+      none-wide l =
+          rw (eq-eqb (length words) 31 h, eq-eqb (length old) 31 room)
+          (first-nowhere (λ k. wide (getD words k 0)) (λ k. Refused 14 k) (first (hopelessAt os) 0 8 (λ i. Refused 15 i) right) 31 r wide-place l
+          ∙ by-lanes os right long)
 
-        pub refused-lane : (i : ℕ) → NoLane i ≡ mendAnswer os → Refused 15 i ≡ answer
-        refused-lane i q = sym (lanes-left ∙ ap (byLanes right) (sym q))
+    -- what is left is what the lanes answer
+    module _ (left : answer ≡ byLanes right (mendAnswer os)) where
+      pub refused-lane : (i : ℕ) → NoLane i ≡ mendAnswer os → Refused 15 i ≡ answer
+      refused-lane i q = sym (left ∙ ap (byLanes right) (sym q))
 
-        module _ (n : ℕ) (q : Mended n ≡ mendAnswer os) where
-          accepted : answer ≡ adfAnswer (repairedOctets words) (Repaired n)
-          unfolding repairedOctets
-          accepted =
-              lanes-left ∙ ap (byLanes right) (sym q)
-              ∙ ap (λ (m : ℕ). adfAnswer (mendedOctets os) (Repaired m)) (sym (counted os n long q))
+      pub accepted : (n : ℕ) → Mended n ≡ mendAnswer os → (xs : List ℕ) → xs ≡ octetsAfter os
+          → (answer ≡ adfAnswer xs (Repaired n)) × (xs ≡ repairedOctets words)
+      unfolding octetsAfter repairedOctets mendedOctets
+      accepted n q xs e =
+          let x : xs ≡ mendedTo 8 os =
+          e ∙ rw (eq-eqb (length os) 30 long) (ap (λ (a : MendAnswer). mendedTo (lanesDone a) os) (sym q)) in (
+            left ∙ ap (byLanes right) (sym q)
+                ∙ ap₂ (λ (l : List ℕ) (m : ℕ). adfAnswer l (Repaired m)) (sym x) (sym (counted os n long q)),
+            x,
+          )
 
-          pub mended : octetsAfter os ≡ repairedOctets words
-          unfolding octetsAfter repairedOctets mendedOctets
-          mended = rw (eq-eqb (length os) 30 long) (ap (λ (a : MendAnswer). mendedTo (lanesDone a) os) (sym q))
+    -- then what the ADF answers, test by test, of the octets as they stand
+    module _ (n : ℕ) (xs : List ℕ) (left : answer ≡ adfAnswer xs (Repaired n)) where
+      pub adf-first : (getD xs 0 0 ≡ 0 → ⊥) → Refused 13 0 ≡ answer
+      unfolding adfAnswer
+      adf-first w = sym (left ∙ rw (ne-eqb (getD xs 0 0) 0 w))
 
-          -- the ADF, test by test, of the octets as they stand
-          module _ (xs : List ℕ) (x : xs ≡ repairedOctets words) where
-            at : answer ≡ adfAnswer xs (Repaired n)
-            at = accepted ∙ ap (λ (l : List ℕ). adfAnswer l (Repaired n)) (sym x)
+      module _ (a : getD xs 0 0 ≡ 0) where
+        pub adf-second : (getD xs 1 0 ≡ 255 → ⊥) → Refused 13 1 ≡ answer
+        unfolding adfAnswer
+        adf-second w = sym (left ∙ rw (eq-eqb (getD xs 0 0) 0 a, ne-eqb (getD xs 1 0) 255 w))
 
-            pub adf-first : (getD xs 0 0 ≡ 0 → ⊥) → Refused 13 0 ≡ answer
-            unfolding adfAnswer
-            adf-first w = sym (at ∙ rw (ne-eqb (getD xs 0 0) 0 w))
+        module _ (b : getD xs 1 0 ≡ 255) where
+          pub adf-third : (getD xs 2 0 ≡ 255 → ⊥) → Refused 13 2 ≡ answer
+          unfolding adfAnswer
+          adf-third w = sym (left ∙ rw (eq-eqb (getD xs 0 0) 0 a, eq-eqb (getD xs 1 0) 255 b, ne-eqb (getD xs 2 0) 255 w))
 
-            pub adf-second : getD xs 0 0 ≡ 0 → (getD xs 1 0 ≡ 255 → ⊥) → Refused 13 1 ≡ answer
-            unfolding adfAnswer
-            adf-second a w = sym (at ∙ rw (eq-eqb (getD xs 0 0) 0 a, ne-eqb (getD xs 1 0) 255 w))
+          pub all-right : getD xs 2 0 ≡ 255 → Repaired n ≡ answer
+          unfolding adfAnswer
+          all-right c = sym (left ∙ rw (eq-eqb (getD xs 0 0) 0 a, eq-eqb (getD xs 1 0) 255 b, eq-eqb (getD xs 2 0) 255 c))
 
-            pub adf-third : getD xs 0 0 ≡ 0 → getD xs 1 0 ≡ 255 → (getD xs 2 0 ≡ 255 → ⊥) → Refused 13 2 ≡ answer
-            unfolding adfAnswer
-            adf-third a b w = sym (at ∙ rw (eq-eqb (getD xs 0 0) 0 a, eq-eqb (getD xs 1 0) 255 b, ne-eqb (getD xs 2 0) 255 w))
-
-            pub all-right : getD xs 0 0 ≡ 0 → getD xs 1 0 ≡ 255 → getD xs 2 0 ≡ 255 → Repaired n ≡ answer
-            unfolding adfAnswer
-            all-right a b c = sym (at ∙ rw (eq-eqb (getD xs 0 0) 0 a, eq-eqb (getD xs 1 0) 255 b, eq-eqb (getD xs 2 0) 255 c))
-
-          pub laid : packetLaid (repairedOctets words) old ≡ packetRepaired words
-          unfolding packetLaid packetRepaired repairedOctets mendedOctets
-          laid =
-              rw (
-                eq-eqb (length (mendedTo 8 os)) 30 (length-mended os long (octets-below words (omega arith)) 8),
-                eq-eqb (length old) 31 room,
-              )
+    pub laid : length old ≡ 31 → packetLaid (repairedOctets words) old ≡ packetRepaired words
+    unfolding packetLaid packetRepaired repairedOctets mendedOctets
+    laid room =
+        rw (
+          eq-eqb (length (mendedTo 8 os)) 30 (length-mended os long (octets-below words (omega arith)) 8),
+          eq-eqb (length old) 31 room,
+        )

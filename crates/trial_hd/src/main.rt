@@ -26,6 +26,11 @@ fn wide16(x: u16) -> u64 {
     x as u64
 }
 
+fn verdict(n: u32, place: u32) {
+    number(wide(n));
+    number(wide(place));
+}
+
 // One octet more of a sum that every octet counts in.
 fn more(h: u64, octet: u64) -> u64 {
     (h % 65521 * 31 + octet % 256) % 65521
@@ -72,27 +77,17 @@ struct Case {
     z2: u32,
 }
 
-// Four bodies.
-struct Four {
-    a: u32,
-    b: u32,
-    c: u32,
-    d: u32,
-}
-
 fn write_case(f: Case, bodies: &[u32], words: &mut [u16]) {
     io::write_all(1, b"write");
     match hd_write::write_packet(f.group, f.dbn, f.phase, f.ck12, f.z1, f.z2, bodies, words) {
         WriteAnswer::Written => {
-            number(0);
-            number(0);
+            verdict(0, 0);
         }
         WriteAnswer::Refused {
             number: n,
             place: p,
         } => {
-            number(wide(n));
-            number(wide(p));
+            verdict(n, p);
         }
     }
     number(sum_words(words));
@@ -103,8 +98,7 @@ fn read_into(words: &[u16], bodies: &mut [u32]) {
     io::write_all(1, b"read");
     match hd_read::read_packet(words, bodies) {
         ReadAnswer::Read(f) => {
-            number(0);
-            number(0);
+            verdict(0, 0);
             number(wide(f.group));
             number(wide(f.dbn));
             number(wide(f.phase));
@@ -116,8 +110,7 @@ fn read_into(words: &[u16], bodies: &mut [u32]) {
             number: n,
             place: p,
         } => {
-            number(wide(n));
-            number(wide(p));
+            verdict(n, p);
             io::write_all(1, b" 0 0 0 0 0 0");
         }
     }
@@ -134,16 +127,14 @@ fn repair_into(words: &[u16], out: &mut [u16]) {
     io::write_all(1, b"repair");
     match hd_repair::repair_packet(words, out) {
         RepairAnswer::Repaired { lanes } => {
-            number(0);
-            number(0);
+            verdict(0, 0);
             number(wide(lanes));
         }
         RepairAnswer::Refused {
             number: n,
             place: p,
         } => {
-            number(wide(n));
-            number(wide(p));
+            verdict(n, p);
             number(0);
         }
     }
@@ -235,8 +226,8 @@ fn short_repair(words: &[u16]) {
     }
 }
 
-fn packet(f: Case, bodies: Four, seed: u32) -> u32 {
-    let b = [bodies.a, bodies.b, bodies.c, bodies.d];
+fn packet(f: Case, bodies: [u32; 4], seed: u32) -> u32 {
+    let b = bodies;
     let mut words = [5u16; 31];
     write_case(f, &b, &mut words);
     read_case(&words);
@@ -296,12 +287,23 @@ fn spoil(c: u32, n: u32) -> u32 {
     0
 }
 
-fn edge(bodies: Four, c: u32) {
+// 5, 6, 7 and so on.
+fn rising() -> [u16; 31] {
+    let mut words = [5u16; 31];
+    let mut i: u16 = 1;
+    while i < 31 {
+        words[i as usize] = 5 + i;
+        i += 1;
+    }
+    words
+}
+
+fn edge(bodies: [u32; 4], c: u32) {
     let b = [
-        bodies.a ^ spoil(c, 0),
-        bodies.b ^ spoil(c, 1),
-        bodies.c ^ spoil(c, 2),
-        bodies.d ^ spoil(c, 3),
+        bodies[0] ^ spoil(c, 0),
+        bodies[1] ^ spoil(c, 1),
+        bodies[2] ^ spoil(c, 2),
+        bodies[3] ^ spoil(c, 3),
     ];
     let f = past(
         Case {
@@ -314,44 +316,12 @@ fn edge(bodies: Four, c: u32) {
         },
         c,
     );
-    let mut words = [
-        5u16,
-        6,
-        7,
-        8,
-        9,
-        10,
-        11,
-        12,
-        13,
-        14,
-        15,
-        16,
-        17,
-        18,
-        19,
-        20,
-        21,
-        22,
-        23,
-        24,
-        25,
-        26,
-        27,
-        28,
-        29,
-        30,
-        31,
-        32,
-        33,
-        34,
-        35,
-    ];
+    let mut words = rising();
     write_case(f, &b, &mut words);
     read_case(&words);
 }
 
-fn edges(bodies: Four) {
+fn edges(bodies: [u32; 4]) {
     let mut c: u32 = 0;
     while c < 80 {
         edge(bodies, c);
@@ -359,55 +329,54 @@ fn edges(bodies: Four) {
     }
 }
 
-fn lengths(bodies: Four) {
-    let f = Case {
+// Every field at its lower edge.
+fn lowest() -> Case {
+    Case {
         group: 1,
         dbn: 0,
         phase: 0,
         ck12: 0,
         z1: 0,
         z2: 0,
-    };
-    let b = [bodies.a, bodies.b, bodies.c, bodies.d];
+    }
+}
+
+fn lengths(bodies: [u32; 4]) {
+    let f = lowest();
+    let b = [bodies[0], bodies[1], bodies[2], bodies[3]];
     let mut words = [0u16; 31];
     write_case(f, &b[..3], &mut words);
     let mut thirty = [0u16; 30];
     write_case(f, &b, &mut thirty);
 }
 
+fn next_case(dbn: u32) {
+    io::write_all(1, b"next");
+    match hd::next_dbn(dbn) {
+        DbnAnswer::Next(d) => {
+            verdict(0, 0);
+            number(wide(d));
+        }
+        DbnAnswer::Refused {
+            number: n,
+            place: p,
+        } => {
+            verdict(n, p);
+            number(0);
+        }
+    }
+    end();
+}
+
 fn numbers() {
     let mut n: u32 = 0;
     while n < 260 {
-        io::write_all(1, b"next");
-        match hd::next_dbn(n) {
-            DbnAnswer::Next(d) => {
-                number(0);
-                number(0);
-                number(wide(d));
-            }
-            DbnAnswer::Refused {
-                number: a,
-                place: p,
-            } => {
-                number(wide(a));
-                number(wide(p));
-                number(0);
-            }
-        }
-        end();
+        next_case(n);
         n += 1;
     }
 }
 
 fn main() {
-    let low = Case {
-        group: 1,
-        dbn: 0,
-        phase: 0,
-        ck12: 0,
-        z1: 0,
-        z2: 0,
-    };
     let high = Case {
         group: 4,
         dbn: 255,
@@ -420,19 +389,8 @@ fn main() {
     let b = next(a);
     let c = next(b);
     let d = next(c);
-    let some = Four {
-        a: body(a),
-        b: body(b),
-        c: body(c),
-        d: body(d),
-    };
-    let none = Four {
-        a: 0,
-        b: 0,
-        c: 0,
-        d: 0,
-    };
-    let x = packet(low, none, d);
+    let some = [body(a), body(b), body(c), body(d)];
+    let x = packet(lowest(), [0u32; 4], d);
     packet(high, some, x);
     edges(some);
     lengths(some);
