@@ -1,22 +1,21 @@
 -- The two tables of the line: the rule of each is one test that antt computes over its entries. Assumes nothing.
-use mathlib.Core.Path.{_≡_, refl, ap, _∙_}
-use mathlib.Core.Bool.{Bool, true, false, xor}
-use mathlib.Core.List.{List, [], _∷_}
-use Prim.Native.Nat.{ℕ, _+_, _-_, _*_, _/_, _%_, _<_}
+use mathlib.Core.Path.{_≡_, refl, sym, ap, _∙_}
+use mathlib.Core.Bool.{Bool, true, false, not, xor}
+use mathlib.Core.List.{List, [], _∷_, map}
+use Prim.Native.Nat.{ℕ, _+_, _-_, _%_, _^_, _<_}
 use native.Mathlib.Omega.{arith}
+use lib.Bits.{bitXor, xor-zero-r, xor-add-and, and-mask}
 use lib.ListN.{length, getD}
 use Rattle.bits.specs.Pick.{pick}
 use Rattle.bits.specs.Row.{odd, bits, bigBits, little, big}
 use Rattle.bits.specs.Listed.{listed}
-use Rattle.bits.proofs.Every.{agree}
 use Rattle.bits.proofs.Lists.{length-listed, getD-listed}
-use Rattle.bits.proofs.Digits.{odd-mod}
-use Rattle.bits.proofs.Tests.{pick-cases}
 use Rattle.bits.proofs.Rows.{length-bits, big-lt, bits-mod}
-use Rattle.line.specs.Biphase.{slots, changing, held}
-use Rattle.line.proofs.BiphaseLaws.{length-slots}
+use Rattle.bits.proofs.Inverting.{big-not}
+use Rattle.line.specs.Biphase.{slots, held}
+use Rattle.line.proofs.BiphaseLaws.{length-slots, slots-not}
 use Rattle.line.proofs.BiphaseOctets.{nibble, nibble-lt}
-use Rattle.aes3.specs.Inner.{eightTable, backTable, fourHeld}
+use Rattle.aes3.specs.Inner.{eightTable, heldTable}
 
 unfoldable pub eights : List ℕ
 eights =
@@ -37,40 +36,16 @@ eights =
     52437 ∷ 45866 ∷ 54058 ∷ 44245 ∷ 52010 ∷ 46293 ∷ 54485 ∷ 43818 ∷ 52522 ∷ 45781 ∷ 53973 ∷ 44330 ∷ 51925 ∷ 46378 ∷ 54570 ∷ 43733 ∷
     52394 ∷ 45909 ∷ 54101 ∷ 44202 ∷ 52053 ∷ 46250 ∷ 54442 ∷ 43861 ∷ 52565 ∷ 45738 ∷ 53930 ∷ 44373 ∷ 51882 ∷ 46421 ∷ 54613 ∷ 43690 ∷ []
 
-unfoldable pub backs : List ℕ
-backs =
-    128 ∷ 128 ∷ 128 ∷ 128 ∷ 128 ∷ 128 ∷ 128 ∷ 128 ∷ 128 ∷ 128 ∷ 128 ∷ 128 ∷ 128 ∷ 128 ∷ 128 ∷ 128 ∷
-    128 ∷ 128 ∷ 128 ∷ 128 ∷ 128 ∷ 128 ∷ 128 ∷ 128 ∷ 128 ∷ 128 ∷ 128 ∷ 128 ∷ 128 ∷ 128 ∷ 128 ∷ 128 ∷
-    128 ∷ 128 ∷ 128 ∷ 128 ∷ 128 ∷ 128 ∷ 128 ∷ 128 ∷ 128 ∷ 128 ∷ 128 ∷ 128 ∷ 128 ∷ 128 ∷ 128 ∷ 128 ∷
-    128 ∷ 128 ∷ 128 ∷ 128 ∷ 128 ∷ 128 ∷ 128 ∷ 128 ∷ 128 ∷ 128 ∷ 128 ∷ 128 ∷ 128 ∷ 128 ∷ 128 ∷ 128 ∷
-    128 ∷ 128 ∷ 128 ∷ 128 ∷ 128 ∷ 128 ∷ 128 ∷ 128 ∷ 128 ∷ 128 ∷ 128 ∷ 128 ∷ 128 ∷ 128 ∷ 128 ∷ 128 ∷
-    128 ∷ 128 ∷ 128 ∷ 128 ∷ 128 ∷ 128 ∷ 128 ∷ 128 ∷ 128 ∷ 128 ∷ 128 ∷ 128 ∷ 128 ∷ 128 ∷ 128 ∷ 128 ∷
-    128 ∷ 128 ∷ 128 ∷ 128 ∷ 128 ∷ 128 ∷ 128 ∷ 128 ∷ 128 ∷ 128 ∷ 128 ∷ 128 ∷ 128 ∷ 128 ∷ 128 ∷ 128 ∷
-    128 ∷ 128 ∷ 128 ∷ 128 ∷ 128 ∷ 128 ∷ 128 ∷ 128 ∷ 128 ∷ 128 ∷ 128 ∷ 128 ∷ 128 ∷ 128 ∷ 128 ∷ 128 ∷
-    128 ∷ 128 ∷ 128 ∷ 128 ∷ 128 ∷ 128 ∷ 128 ∷ 128 ∷ 128 ∷ 128 ∷ 128 ∷ 128 ∷ 128 ∷ 128 ∷ 128 ∷ 128 ∷
-    128 ∷ 128 ∷ 128 ∷ 128 ∷ 128 ∷ 128 ∷ 128 ∷ 128 ∷ 128 ∷ 128 ∷ 128 ∷ 128 ∷ 128 ∷ 128 ∷ 128 ∷ 128 ∷
-    128 ∷ 128 ∷ 128 ∷ 128 ∷ 128 ∷ 128 ∷ 128 ∷ 128 ∷ 128 ∷ 128 ∷ 15 ∷ 7 ∷ 3 ∷ 11 ∷ 128 ∷ 128 ∷
-    128 ∷ 128 ∷ 9 ∷ 1 ∷ 5 ∷ 13 ∷ 128 ∷ 128 ∷ 128 ∷ 128 ∷ 128 ∷ 128 ∷ 128 ∷ 128 ∷ 128 ∷ 128 ∷
-    128 ∷ 128 ∷ 128 ∷ 128 ∷ 128 ∷ 128 ∷ 128 ∷ 128 ∷ 128 ∷ 128 ∷ 12 ∷ 4 ∷ 0 ∷ 8 ∷ 128 ∷ 128 ∷
-    128 ∷ 128 ∷ 10 ∷ 2 ∷ 6 ∷ 14 ∷ 128 ∷ 128 ∷ 128 ∷ 128 ∷ 128 ∷ 128 ∷ 128 ∷ 128 ∷ 128 ∷ 128 ∷
-    128 ∷ 128 ∷ 128 ∷ 128 ∷ 128 ∷ 128 ∷ 128 ∷ 128 ∷ 128 ∷ 128 ∷ 128 ∷ 128 ∷ 128 ∷ 128 ∷ 128 ∷ 128 ∷
-    128 ∷ 128 ∷ 128 ∷ 128 ∷ 128 ∷ 128 ∷ 128 ∷ 128 ∷ 128 ∷ 128 ∷ 128 ∷ 128 ∷ 128 ∷ 128 ∷ 128 ∷ 128 ∷
-    128 ∷ 128 ∷ 128 ∷ 128 ∷ 128 ∷ 128 ∷ 128 ∷ 128 ∷ 128 ∷ 128 ∷ 128 ∷ 128 ∷ 128 ∷ 128 ∷ 128 ∷ 128 ∷
-    128 ∷ 128 ∷ 128 ∷ 128 ∷ 128 ∷ 128 ∷ 128 ∷ 128 ∷ 128 ∷ 128 ∷ 128 ∷ 128 ∷ 128 ∷ 128 ∷ 128 ∷ 128 ∷
-    128 ∷ 128 ∷ 128 ∷ 128 ∷ 128 ∷ 128 ∷ 128 ∷ 128 ∷ 128 ∷ 128 ∷ 14 ∷ 6 ∷ 2 ∷ 10 ∷ 128 ∷ 128 ∷
-    128 ∷ 128 ∷ 8 ∷ 0 ∷ 4 ∷ 12 ∷ 128 ∷ 128 ∷ 128 ∷ 128 ∷ 128 ∷ 128 ∷ 128 ∷ 128 ∷ 128 ∷ 128 ∷
-    128 ∷ 128 ∷ 128 ∷ 128 ∷ 128 ∷ 128 ∷ 128 ∷ 128 ∷ 128 ∷ 128 ∷ 13 ∷ 5 ∷ 1 ∷ 9 ∷ 128 ∷ 128 ∷
-    128 ∷ 128 ∷ 11 ∷ 3 ∷ 7 ∷ 15 ∷ 128 ∷ 128 ∷ 128 ∷ 128 ∷ 128 ∷ 128 ∷ 128 ∷ 128 ∷ 128 ∷ 128 ∷
-    128 ∷ 128 ∷ 128 ∷ 128 ∷ 128 ∷ 128 ∷ 128 ∷ 128 ∷ 128 ∷ 128 ∷ 128 ∷ 128 ∷ 128 ∷ 128 ∷ 128 ∷ 128 ∷
-    128 ∷ 128 ∷ 128 ∷ 128 ∷ 128 ∷ 128 ∷ 128 ∷ 128 ∷ 128 ∷ 128 ∷ 128 ∷ 128 ∷ 128 ∷ 128 ∷ 128 ∷ 128 ∷
-    128 ∷ 128 ∷ 128 ∷ 128 ∷ 128 ∷ 128 ∷ 128 ∷ 128 ∷ 128 ∷ 128 ∷ 128 ∷ 128 ∷ 128 ∷ 128 ∷ 128 ∷ 128 ∷
-    128 ∷ 128 ∷ 128 ∷ 128 ∷ 128 ∷ 128 ∷ 128 ∷ 128 ∷ 128 ∷ 128 ∷ 128 ∷ 128 ∷ 128 ∷ 128 ∷ 128 ∷ 128 ∷
-    128 ∷ 128 ∷ 128 ∷ 128 ∷ 128 ∷ 128 ∷ 128 ∷ 128 ∷ 128 ∷ 128 ∷ 128 ∷ 128 ∷ 128 ∷ 128 ∷ 128 ∷ 128 ∷
-    128 ∷ 128 ∷ 128 ∷ 128 ∷ 128 ∷ 128 ∷ 128 ∷ 128 ∷ 128 ∷ 128 ∷ 128 ∷ 128 ∷ 128 ∷ 128 ∷ 128 ∷ 128 ∷
-    128 ∷ 128 ∷ 128 ∷ 128 ∷ 128 ∷ 128 ∷ 128 ∷ 128 ∷ 128 ∷ 128 ∷ 128 ∷ 128 ∷ 128 ∷ 128 ∷ 128 ∷ 128 ∷
-    128 ∷ 128 ∷ 128 ∷ 128 ∷ 128 ∷ 128 ∷ 128 ∷ 128 ∷ 128 ∷ 128 ∷ 128 ∷ 128 ∷ 128 ∷ 128 ∷ 128 ∷ 128 ∷
-    128 ∷ 128 ∷ 128 ∷ 128 ∷ 128 ∷ 128 ∷ 128 ∷ 128 ∷ 128 ∷ 128 ∷ 128 ∷ 128 ∷ 128 ∷ 128 ∷ 128 ∷ 128 ∷
-    128 ∷ 128 ∷ 128 ∷ 128 ∷ 128 ∷ 128 ∷ 128 ∷ 128 ∷ 128 ∷ 128 ∷ 128 ∷ 128 ∷ 128 ∷ 128 ∷ 128 ∷ 128 ∷ []
+unfoldable pub helds : List ℕ
+helds =
+    0 ∷ 8 ∷ 8 ∷ 0 ∷ 4 ∷ 12 ∷ 12 ∷ 4 ∷ 4 ∷ 12 ∷ 12 ∷ 4 ∷ 0 ∷ 8 ∷ 8 ∷ 0 ∷ 2 ∷ 10 ∷ 10 ∷ 2 ∷ 6 ∷ 14 ∷ 14 ∷ 6 ∷ 6 ∷ 14 ∷ 14 ∷ 6 ∷ 2 ∷ 10 ∷ 10 ∷ 2 ∷
+    2 ∷ 10 ∷ 10 ∷ 2 ∷ 6 ∷ 14 ∷ 14 ∷ 6 ∷ 6 ∷ 14 ∷ 14 ∷ 6 ∷ 2 ∷ 10 ∷ 10 ∷ 2 ∷ 0 ∷ 8 ∷ 8 ∷ 0 ∷ 4 ∷ 12 ∷ 12 ∷ 4 ∷ 4 ∷ 12 ∷ 12 ∷ 4 ∷ 0 ∷ 8 ∷ 8 ∷ 0 ∷
+    1 ∷ 9 ∷ 9 ∷ 1 ∷ 5 ∷ 13 ∷ 13 ∷ 5 ∷ 5 ∷ 13 ∷ 13 ∷ 5 ∷ 1 ∷ 9 ∷ 9 ∷ 1 ∷ 3 ∷ 11 ∷ 11 ∷ 3 ∷ 7 ∷ 15 ∷ 15 ∷ 7 ∷ 7 ∷ 15 ∷ 15 ∷ 7 ∷ 3 ∷ 11 ∷ 11 ∷ 3 ∷
+    3 ∷ 11 ∷ 11 ∷ 3 ∷ 7 ∷ 15 ∷ 15 ∷ 7 ∷ 7 ∷ 15 ∷ 15 ∷ 7 ∷ 3 ∷ 11 ∷ 11 ∷ 3 ∷ 1 ∷ 9 ∷ 9 ∷ 1 ∷ 5 ∷ 13 ∷ 13 ∷ 5 ∷ 5 ∷ 13 ∷ 13 ∷ 5 ∷ 1 ∷ 9 ∷ 9 ∷ 1 ∷
+    1 ∷ 9 ∷ 9 ∷ 1 ∷ 5 ∷ 13 ∷ 13 ∷ 5 ∷ 5 ∷ 13 ∷ 13 ∷ 5 ∷ 1 ∷ 9 ∷ 9 ∷ 1 ∷ 3 ∷ 11 ∷ 11 ∷ 3 ∷ 7 ∷ 15 ∷ 15 ∷ 7 ∷ 7 ∷ 15 ∷ 15 ∷ 7 ∷ 3 ∷ 11 ∷ 11 ∷ 3 ∷
+    3 ∷ 11 ∷ 11 ∷ 3 ∷ 7 ∷ 15 ∷ 15 ∷ 7 ∷ 7 ∷ 15 ∷ 15 ∷ 7 ∷ 3 ∷ 11 ∷ 11 ∷ 3 ∷ 1 ∷ 9 ∷ 9 ∷ 1 ∷ 5 ∷ 13 ∷ 13 ∷ 5 ∷ 5 ∷ 13 ∷ 13 ∷ 5 ∷ 1 ∷ 9 ∷ 9 ∷ 1 ∷
+    0 ∷ 8 ∷ 8 ∷ 0 ∷ 4 ∷ 12 ∷ 12 ∷ 4 ∷ 4 ∷ 12 ∷ 12 ∷ 4 ∷ 0 ∷ 8 ∷ 8 ∷ 0 ∷ 2 ∷ 10 ∷ 10 ∷ 2 ∷ 6 ∷ 14 ∷ 14 ∷ 6 ∷ 6 ∷ 14 ∷ 14 ∷ 6 ∷ 2 ∷ 10 ∷ 10 ∷ 2 ∷
+    2 ∷ 10 ∷ 10 ∷ 2 ∷ 6 ∷ 14 ∷ 14 ∷ 6 ∷ 6 ∷ 14 ∷ 14 ∷ 6 ∷ 2 ∷ 10 ∷ 10 ∷ 2 ∷ 0 ∷ 8 ∷ 8 ∷ 0 ∷ 4 ∷ 12 ∷ 12 ∷ 4 ∷ 4 ∷ 12 ∷ 12 ∷ 4 ∷ 0 ∷ 8 ∷ 8 ∷ 0 ∷ []
 
 -- ---- writing: eight slots after level 0, and inverted after level 1
 
@@ -87,46 +62,48 @@ unfolding eightTable
 after-0 d h = getD-listed 256 (λ d. big (slots false (bits 8 d))) d 0 h
 
 -- a level inverts the slots after it
-inverse : (d : ℕ) → d < 256 → 65535 - big (slots false (bits 8 d)) ≡ big (slots true (bits 8 d))
-unfolding big slots bits xor
-inverse = agree 256 (λ d. 65535 - big (slots false (bits 8 d))) (λ d. big (slots true (bits 8 d))) tt
+inverse : (d : ℕ) → 65535 - big (slots false (bits 8 d)) ≡ big (slots true (bits 8 d))
+inverse d =
+    let n : length (slots false (bits 8 d)) ≡ 16 = rw (length-slots false (bits 8 d), length-bits 8 d) in
+    let e : big (map not (slots false (bits 8 d))) + big (slots false (bits 8 d)) + 1 ≡ 2 ^ 16 = rw n at (big-not (slots false (bits 8 d))) in
+    let m : 65535 - big (slots false (bits 8 d)) ≡ big (map not (slots false (bits 8 d))) = omega arith in
+    m ∙ ap big (sym (slots-not false (bits 8 d)))
 
-eight-lt : (l : Bool) (d : ℕ) → big (slots l (bits 8 d)) < 65536
+pub eight-lt : (l : Bool) (d : ℕ) → big (slots l (bits 8 d)) < 65536
 eight-lt l d = rw (length-slots l (bits 8 d), length-bits 8 d) at (big-lt (slots l (bits 8 d)))
+
+-- an exclusive or with ones takes from them
+against-ones : (s : ℕ) → s < 65536 → bitXor s 65535 ≡ 65535 - s
+against-ones s h = omega (arith, xor-add-and s 65535, and-mask s 16)
 
 module _ (table : List ℕ) (t : table ≡ eightTable) (before d : ℕ) where
   pub eights-lt : getD table (d % 256) 0 < 65536
   eights-lt = rw (t, after-0 (d % 256) (omega arith)) (eight-lt false (d % 256))
 
-  pub eight-0 : before % 2 ≡ 0 → getD table (d % 256) 0 ≡ big (slots (odd before) (bits 8 d))
-  eight-0 h = rw (t, after-0 (d % 256) (omega arith), h, bits-mod 8 d)
+  entry : getD table (d % 256) 0 ≡ big (slots false (bits 8 d))
+  entry = rw (t, after-0 (d % 256) (omega arith), bits-mod 8 d)
 
-  pub eight-1 : before % 2 ≡ 1 → 65535 - getD table (d % 256) 0 ≡ big (slots (odd before) (bits 8 d))
-  eight-1 h = rw (t, after-0 (d % 256) (omega arith), inverse (d % 256) (omega arith), h, bits-mod 8 d)
+  pub eight-turned : (m : ℕ) → m ≡ pick (odd before) 65535 0 → bitXor (getD table (d % 256) 0) m ≡ big (slots (odd before) (bits 8 d))
+  eight-turned m e = ap (bitXor (getD table (d % 256) 0)) e ∙ go (odd before)
+    where
+      go : (l : Bool) → bitXor (getD table (d % 256) 0) (pick l 65535 0) ≡ big (slots l (bits 8 d))
+      go true = against-ones (getD table (d % 256) 0) eights-lt ∙ ap (λ (s : ℕ). 65535 - s) entry ∙ inverse d
+      go false = xor-zero-r (getD table (d % 256) 0) ∙ entry
 
--- ---- reading: four slots after either level
+-- ---- reading: the four bits of an octet
 
-pub backs-right : backs ≡ backTable
-unfolding backs backTable listed fourHeld changing held little bigBits xor
-backs-right = refl
+pub helds-right : helds ≡ heldTable
+unfolding helds heldTable listed held little bigBits xor
+helds-right = refl
 
-pub length-backs : length backTable ≡ 512
-unfolding backTable
-length-backs = length-listed 0 512 (λ k. fourHeld (k / 256) (k % 256))
+pub length-helds : length heldTable ≡ 256
+unfolding heldTable
+length-helds = length-listed 0 256 (λ o. little (held (bigBits 8 o)))
 
-module _ (table : List ℕ) (t : table ≡ backTable) (before o : ℕ) (h : o < 256) where
-  pub back-at : getD table (before % 2 * 256 + o) 0 ≡ fourHeld before o
-  unfolding backTable fourHeld
-  back-at =
-      let q : (before % 2 * 256 + o) / 256 ≡ before % 2 = omega arith in
-      let r : (before % 2 * 256 + o) % 256 ≡ o = omega arith in
-      ap (λ (xs : List ℕ). getD xs (before % 2 * 256 + o) 0) t
-      ∙ getD-listed 512 (λ k. fourHeld (k / 256) (k % 256)) (before % 2 * 256 + o) 0 (omega arith)
-      ∙ rw (q, r, odd-mod)
+module _ (table : List ℕ) (t : table ≡ heldTable) (o : ℕ) (h : o < 256) where
+  pub held-at : getD table o 0 ≡ nibble o
+  unfolding heldTable
+  held-at = ap (λ (xs : List ℕ). getD xs o 0) t ∙ getD-listed 256 (λ o. little (held (bigBits 8 o))) o 0 h
 
-  four-lt : fourHeld before o < 129
-  unfolding fourHeld
-  four-lt = pick-cases (λ (n : ℕ). n < 129) (changing (odd before) (bigBits 8 o)) (nibble o) 128 (λ t. omega (arith, nibble-lt o)) (λ f. omega arith)
-
-  pub back-lt : getD table (before % 2 * 256 + o) 0 < 129
-  back-lt = rw back-at four-lt
+  pub held-lt : getD table o 0 < 16
+  held-lt = rw held-at (nibble-lt o)

@@ -1,14 +1,13 @@
 -- The answer of a block's reader, from what decoding its line and filling its buffers gave. Assumes nothing.
-use mathlib.Core.Path.{_≡_, refl, sym, ap, _∙_}
+use mathlib.Core.Path.{_≡_, refl}
 use mathlib.Core.List.{List}
 use Prim.Native.Nat.{ℕ}
-use borrow.Author.Tests.{eq-eqb}
 use lib.IntN.{ℤ}
 use lib.ListN.{length}
 use Rattle.bits.specs.Row.{digit}
 use Rattle.block.specs.Block.{samplesOf, sideOf, samplesFilled, sideFilled}
 use Rattle.block.specs.Check.{statusRight}
-use Rattle.aes3.specs.Line.{LineRead, LineRead.All, LineRead.Stopped, bodiesOn}
+use Rattle.aes3.specs.Line.{LineRead.All, LineRead.Stopped, bodiesOn}
 use Rattle.aes3.specs.Block.{blockRead, readAnswer, samplesRead, sideRead}
 use Rattle.aes3.specs.declared.ReadAnswer.the-variants.{Read, Refused}
 

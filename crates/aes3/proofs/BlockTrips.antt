@@ -1,11 +1,11 @@
 -- The promises over whole blocks: what the writer accepts is read back unchanged, what the reader accepted is written back as the same line,
 -- and inverting every symbol changes no answer. Assumes nothing.
 use mathlib.Core.Path.{_≡_, refl, sym, ap, ap₂, _∙_}
-use mathlib.Core.Bool.{Bool, true, false, not, _&&_}
-use mathlib.Core.List.{List, [], _∷_}
-use Prim.Native.Nat.{ℕ, zero, suc, _*_, _<_}
+use mathlib.Core.Bool.{Bool, true, false, _&&_}
+use mathlib.Core.List.{List}
+use Prim.Native.Nat.{ℕ, _*_}
 use native.Mathlib.Omega.{arith}
-use borrow.Author.Tests.{eq-eqb, eqb-true, lt-ltb, ltb-true}
+use borrow.Author.Tests.{eq-eqb, eqb-true, lt-ltb}
 use lib.Dec.{eqb, ltb}
 use lib.IntN.{ℤ}
 use lib.ListN.{length}
@@ -16,22 +16,22 @@ use Rattle.bits.proofs.Tests.{both-true}
 use Rattle.bits.proofs.Digits.{digit-lt, odd-digit}
 use Rattle.line.specs.Biphase.{left}
 use Rattle.block.specs.Block.{bodiesOf, samplesOf, sideOf, blockLengths}
-use Rattle.block.specs.Check.{statusRight, statusChecked, checked}
+use Rattle.block.specs.Check.{statusChecked, checked}
 use Rattle.block.specs.declared.BlockAnswer.{BlockAnswer}
 use Rattle.block.specs.declared.BlockAnswer.the-variants.{Sound}
 use Rattle.block.specs.declared.BlockAnswer.the-variants.{Refused as Unsound}
 use Rattle.block.proofs.BlockLaws.{length-bodies, length-samples, length-side, proper, samples-back, side-back, bodies-back}
 use Rattle.block.proofs.CheckLaws.{Passes, sound-passes, right-back, read-checked}
-use Rattle.aes3.specs.Line.{lineFrom, LineRead, LineRead.All, LineRead.Stopped, levelBefore, bodiesOn, inverted}
-use Rattle.aes3.specs.Block.{blockLine, toWrite, writeAnswer, lineAfter, lineWritten, blockRead, toRead, readAnswer, samplesAfter, sideAfter, samplesRead, sideRead}
+use Rattle.aes3.specs.Line.{lineFrom, LineRead, LineRead.All, LineRead.Stopped, levelBefore, bodiesOn}
+use Rattle.aes3.specs.Block.{blockLine, toWrite, writeAnswer, lineWritten, blockRead, toRead, readAnswer, samplesAfter, sideAfter, samplesRead, sideRead}
 use Rattle.aes3.specs.declared.WriteAnswer.{WriteAnswer}
 use Rattle.aes3.specs.declared.WriteAnswer.the-variants.{Written}
 use Rattle.aes3.specs.declared.WriteAnswer.the-variants.{Refused as NotWritten}
-use Rattle.aes3.specs.declared.ReadAnswer.{ReadAnswer}
 use Rattle.aes3.specs.declared.ReadAnswer.the-variants.{Read}
-use Rattle.aes3.specs.declared.ReadAnswer.the-variants.{Refused as NotRead}
 use Rattle.aes3.proofs.LineTrips.{length-line, line-level, read-back, WasRead, write-back}
-use Rattle.aes3.proofs.Polarity.{length-inverted, line-not}
+use Rattle.line.specs.Polarity.{inverted}
+use Rattle.line.proofs.Inverted.{length-inverted}
+use Rattle.aes3.proofs.Polarity.{line-not}
 
 -- ---- what the writer accepts
 

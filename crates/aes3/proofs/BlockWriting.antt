@@ -1,12 +1,11 @@
 -- The answer of a block's writer, from what was found of samples and side table. Assumes nothing.
-use mathlib.Core.Path.{_≡_, refl, sym, ap, _∙_}
+use mathlib.Core.Path.{_≡_, refl}
 use mathlib.Core.List.{List}
 use Prim.Native.Nat.{ℕ, _<_}
 use borrow.Author.Tests.{lt-ltb}
 use lib.IntN.{ℤ}
 use lib.ListN.{length}
 use Rattle.block.specs.Check.{checked}
-use Rattle.block.specs.declared.BlockAnswer.{BlockAnswer}
 use Rattle.block.specs.declared.BlockAnswer.the-variants.{Sound}
 use Rattle.block.specs.declared.BlockAnswer.the-variants.{Refused as Unsound}
 use Rattle.aes3.specs.Block.{blockLine, toWrite, writeAnswer, lineWritten}

@@ -1,22 +1,21 @@
 -- Bodies of 27 bits, as the writer of a subframe lays them: an even body ends on the level that it began after. Assumes nothing.
 use mathlib.Core.Path.{_≡_, refl, sym, ap, _∙_}
 use mathlib.Core.Bool.{Bool, true, false, xor}
-use mathlib.Core.List.{List}
-use Prim.Native.Nat.{ℕ, _+_, _*_, _/_, _%_, _^_, _<_}
+use Prim.Native.Nat.{ℕ, zero, suc, _+_, _*_, _/_, _%_, _^_, _<_}
 use native.Mathlib.Omega.{arith}
-use lib.ListN.{length, set}
-use Rattle.bits.specs.Row.{odd, digit, bit, bits, big}
-use Rattle.bits.specs.Pack.{octets}
+use lib.Dec.{eqb}
+use Rattle.bits.specs.Row.{odd, bit, bits, big, parity}
 use Rattle.bits.proofs.Every.{agree}
+use Rattle.bits.proofs.Tests.{no-yes}
 use Rattle.bits.proofs.Rows.{bits-mod}
 use Rattle.line.specs.Biphase.{slots, left}
+use Rattle.line.proofs.BiphaseLaws.{level-kept}
 use Rattle.line.proofs.BiphaseOctets.{eight-first}
+use Rattle.line.proofs.BiphaseWords.{left-big, big-slots}
 use Rattle.subframe.specs.Body.{Proper}
 use Rattle.subframe.proofs.BodyLaws.{body-lt, body-low, body-sample, body-V, body-U, body-C, body-even}
-use Rattle.aes3.specs.Subframe.{preamble, subframe}
-use Rattle.aes3.specs.Inner.{bodyWith}
-use Rattle.aes3.proofs.Writing.{subframe-laid, level-laid}
-use Rattle.aes3.proofs.LineLaws.{level-returns}
+use Rattle.aes3.specs.Inner.{opened, bodyWith}
+use Rattle.aes3.proofs.Writing.{slots-of, big-opened}
 
 -- ---- numbers that agree bit by bit
 
@@ -78,43 +77,65 @@ module _ (x : ℕ) (h : x < 134217728) where
 same-bits : (p q : ℕ) → p % 256 ≡ q % 256 → bits 8 p ≡ bits 8 q
 same-bits p q e = sym (bits-mod 8 p) ∙ ap (bits 8) e ∙ bits-mod 8 q
 
+even-of : (n : ℕ) → odd n ≡ false → n % 2 ≡ 0
+even-of n e = go (n % 2) (omega arith) e
+  where
+    go : (d : ℕ) → d < 2 → eqb d 1 ≡ false → d ≡ 0
+    go zero h f = refl
+    go (suc zero) h f = no-yes (eqb 1 1) f refl
+    go (suc (suc d)) h f = absurd (omega arith)
+
 -- the first seven symbols of four slots do not depend on the fourth bit
 seven-same : (l : Bool) (w : ℕ) → w < 16 → big (slots l (bits 4 w)) / 2 ≡ big (slots l (bits 4 (w % 8))) / 2
 unfolding big slots bits xor
 seven-same true = agree 16 (λ w. big (slots true (bits 4 w)) / 2) (λ w. big (slots true (bits 4 (w % 8))) / 2) tt
 seven-same false = agree 16 (λ w. big (slots false (bits 4 w)) / 2) (λ w. big (slots false (bits 4 (w % 8))) / 2) tt
 
-module _ (i : ℕ) (l : Bool) (x : ℕ) (os : List ℕ) (m p q r s k : ℕ) (h : x < 134217728) (n : length os ≡ 8) (em : m ≡ big (preamble i l))
-    (ep : p ≡ big (slots l (bits 8 x))) (eq : q ≡ big (slots (odd p) (bits 8 (x / 256))))
-    (er : r ≡ big (slots (odd q) (bits 8 (x / 65536)))) (es : s ≡ big (slots (odd r) (bits 8 (x / 16777216)))) (ek : k ≡ digit l) where
+-- the word that the writer of a subframe makes: the preamble's octet m, sixteen symbols three times, and seven of the last eight
+module _ (x m p q r s : ℕ) (h : x < 134217728) (hm : m < 256) (ep : p ≡ big (slots false (bits 8 x)))
+    (eq : q ≡ big (slots (odd p) (bits 8 (x / 256)))) (er : r ≡ big (slots (odd q) (bits 8 (x / 65536))))
+    (es : s ≡ big (slots (odd r) (bits 8 (x / 16777216)))) where
   abbrev y : ℕ
   y = bodyWith x / 16
 
-  first : p ≡ big (slots l (bits 8 y))
-  first = ep ∙ ap (λ b. big (slots l b)) (same-bits x y (omega (arith, holds x h)))
+  first : p ≡ big (slots false (bits 8 y))
+  first = ep ∙ ap (λ b. big (slots false b)) (same-bits x y (omega (arith, holds x h)))
 
   second : q ≡ big (slots (odd p) (bits 8 (y / 256)))
   second = eq ∙ ap (λ b. big (slots (odd p) b)) (same-bits (x / 256) (y / 256) (omega (arith, holds x h)))
 
-  third : r ≡ big (slots (odd q) (bits 8 (y / 65536)))
-  third = er ∙ ap (λ b. big (slots (odd q) b)) (same-bits (x / 65536) (y / 65536) (omega (arith, holds x h)))
+  third : r ≡ big (slots (odd q) (bits 8 (y / 256 / 256)))
+  third =
+      let e : x / 65536 % 256 ≡ y / 256 / 256 % 256 = omega (arith, holds x h) in
+      er ∙ ap (λ b. big (slots (odd q) b)) (same-bits (x / 65536) (y / 256 / 256) e)
 
   abbrev fourth : ℕ
-  fourth = big (slots (odd r) (bits 8 (y / 16777216)))
+  fourth = big (slots (odd r) (bits 4 (y / 256 / 256 / 256)))
 
-  last : s / 512 * 2 + k ≡ fourth / 256
+  whole-word : big (slots false (bits 28 y)) ≡ p * 2 ^ 40 + (q * 2 ^ 24 + (r * 2 ^ 8 + fourth))
+  whole-word =
+      big-slots 7 20 false y
+      ∙ rw (← first)
+      (ap (λ (n : ℕ). p * 2 ^ 40 + n)
+      (big-slots 7 12 (odd p) (y / 256) ∙ rw (← second)
+      (ap (λ (n : ℕ). q * 2 ^ 24 + n) (big-slots 7 4 (odd q) (y / 256 / 256) ∙ rw (← third)))))
+
+  -- an even body leaves level 0
+  whole-even : big (slots false (bits 28 y)) % 2 ≡ 0
+  unfolding slots bits
+  whole-even =
+      let e : parity (bits 28 y) ≡ 0 = rw (slots-of (bodyWith x)) at (proper-with x h .evenly) in
+      let l : left false (slots false (bits 28 y)) ≡ false = level-kept false (bits 28 y) refl e in
+      even-of (big (slots false (bits 28 y))) (sym (left-big false _ _) ∙ l)
+
+  last : s / 512 * 2 ≡ fourth
   last =
-      let w : y / 16777216 % 8 ≡ x / 16777216 = omega (arith, holds x h) in
-      let f : fourth / 256 / 2 ≡ big (slots (odd r) (bits 4 (x / 16777216))) / 2 =
-      ap (λ (o : ℕ). o / 2) (eight-first (odd r) (y / 16777216))
-      ∙ seven-same (odd r) (y / 16777216) (omega (arith, proper-with x h .small)) ∙ ap (λ (o : ℕ). big (slots (odd r) (bits 4 o)) / 2) w in
+      let z : y / 256 / 256 / 256 % 8 ≡ x / 16777216 = omega (arith, holds x h) in
+      let f : fourth / 2 ≡ big (slots (odd r) (bits 4 (x / 16777216))) / 2 =
+      seven-same (odd r) (y / 256 / 256 / 256) (omega (arith, proper-with x h .small)) ∙ ap (λ (o : ℕ). big (slots (odd r) (bits 4 o)) / 2) z in
       let g : s / 256 ≡ big (slots (odd r) (bits 4 (x / 16777216))) = ap (λ (o : ℕ). o / 256) es ∙ eight-first (odd r) (x / 16777216) in
-      let e : fourth / 256 % 2 ≡ digit l =
-      level-laid i l (bodyWith x) os m p q r fourth n em first second third refl ∙ ap digit (level-returns i l (bodyWith x) (proper-with x h)) in
-      let c : s / 256 / 2 ≡ fourth / 256 / 2 = ap (λ (o : ℕ). o / 2) g ∙ sym f in
-      omega (arith, c, e, ek)
+      let c : s / 256 / 2 ≡ fourth / 2 = ap (λ (o : ℕ). o / 2) g ∙ sym f in
+      omega (arith, c, whole-word, whole-even)
 
-  pub laid-with
-      : set (set (set (set (set (set (set (set os 0 m) 1 (p / 256)) 2 (p % 256)) 3 (q / 256)) 4 (q % 256)) 5 (r / 256)) 6 (r % 256)) 7 (s / 512 * 2 + k)
-      ≡ octets 8 (subframe i l (bodyWith x))
-  laid-with = rw last (subframe-laid i l (bodyWith x) os m p q r fourth n em first second third refl)
+  pub word-with : (((m * 65536 + p) * 65536 + q) * 65536 + r) * 256 + s / 512 * 2 ≡ big (opened m false (bodyWith x))
+  word-with = omega (arith, big-opened m (bodyWith x) hm, whole-word, last)

@@ -1,20 +1,20 @@
 -- A line read subframe by subframe: the turn of the loop, its ends, and the level at its start. Assumes nothing.
 use mathlib.Core.Path.{_≡_, refl, sym, ap, _∙_}
-use mathlib.Core.Bool.{Bool, true, not}
+use mathlib.Core.Bool.{Bool, not}
 use mathlib.Core.List.{List, [], _∷_, _++_, append-assoc, append-nil}
-use Prim.Native.Nat.{ℕ, zero, suc, _+_, _-_, _*_, _/_, _%_, _≤_, _<_}
+use Prim.Native.Nat.{ℕ, zero, suc, _+_, _-_, _*_, _/_, _<_}
 use native.Mathlib.Omega.{arith}
 use native.Mathlib.Numerals.{add-one}
 use lib.ListN.{length, take, drop, set, getD, length-take, length-drop}
-use lib.Seq.{drop-cons, drop-drop, take-suc-set, take-all}
+use lib.Seq.{drop-drop, take-suc-set, take-all}
 use Rattle.bits.specs.Row.{odd, bigBits}
 use Rattle.bits.specs.Pack.{chain, symbols}
-use Rattle.bits.proofs.Digits.{odd-mod}
-use Rattle.line.proofs.BiphaseOctets.{left-octets}
-use Rattle.aes3.specs.Subframe.{subframeRead, subframeNumber}
-use Rattle.aes3.specs.Line.{LineRead, LineRead.All, LineRead.Stopped, before, bodiesFrom, levelBefore, bodiesOn}
-use Rattle.aes3.specs.declared.SubframeAnswer.{SubframeAnswer}
+use Rattle.bits.proofs.Packing.{highest, length-chain}
+use Rattle.line.specs.Biphase.{left}
+use Rattle.aes3.specs.Subframe.{subframeRead}
+use Rattle.aes3.specs.Line.{LineRead, LineRead.All, LineRead.Stopped, before, bodiesFrom, levelBefore}
 use Rattle.aes3.specs.declared.SubframeAnswer.the-variants.{Body, Refused}
+use Rattle.aes3.proofs.LineLaws.{level-read}
 
 -- ---- the level at the start
 
@@ -56,21 +56,25 @@ module _ (line : List ℕ) (i level : ℕ) (h : i < 384) (len : length line ≡ 
   pub length-lent : length lent ≡ 8
   length-lent = rw (eight, length-take, length-drop) (omega arith)
 
-  abbrev later : LineRead
-  later = bodiesFrom (384 - (i + 1)) (i + 1) (odd (getD lent 7 0 % 2)) (drop ((i + 1) * 8) line)
+  -- the subframes after it, after a level
+  abbrev later : Bool → LineRead
+  later l = bodiesFrom (384 - (i + 1)) (i + 1) l (drop ((i + 1) * 8) line)
 
-  next-read : bodiesFrom (384 - i) i (odd level) (drop (i * 8) line) ≡ before i (subframeRead i (odd level) (symbols lent)) later
+  next-read : bodiesFrom (384 - i) i (odd level) (drop (i * 8) line)
+      ≡ before i (subframeRead i (odd level) (symbols lent)) (later (left (odd level) (symbols lent)))
   unfolding bodiesFrom
   next-read =
       let m : 384 - i ≡ suc (384 - (i + 1)) = omega arith in
       let d : (i + 1) * 8 ≡ i * 8 + 8 = omega arith in
-      let z : length (take 8 (drop (i * 8) line)) ≡ 8 = rw eight at length-lent in
-      rw (eight, m, odd-mod, d, add-one i, ← drop-drop 8 (i * 8) line, left-octets (odd level) (take 8 (drop (i * 8) line)) 7 z)
+      rw (eight, m, d, add-one i, ← drop-drop 8 (i * 8) line)
 
+  -- an accepted subframe leaves the level as it was
   pub read-turn : (bodies : List ℕ) (b : ℕ) (whole : LineRead) → i < length bodies → subframeRead i (odd level) (symbols lent) ≡ Body b
       → front (take i bodies) (bodiesFrom (384 - i) i (odd level) (drop (i * 8) line)) ≡ whole
-      → front (take (i + 1) (set bodies i b)) later ≡ whole
-  read-turn bodies b whole m e q = front-more bodies i b later m ∙ rw (next-read, e) at q
+      → front (take (i + 1) (set bodies i b)) (later (odd level)) ≡ whole
+  read-turn bodies b whole m e q =
+      let n : length (symbols lent) ≡ 64 = length-chain (highest 8) lent ∙ rw length-lent in
+      front-more bodies i b (later (odd level)) m ∙ rw (next-read, level-read i (odd level) (symbols lent) b n e, e) at q
 
   pub read-stop : (bodies : List ℕ) (n : ℕ) (whole : LineRead) → subframeRead i (odd level) (symbols lent) ≡ Refused n
       → front (take i bodies) (bodiesFrom (384 - i) i (odd level) (drop (i * 8) line)) ≡ whole → Stopped n i ≡ whole

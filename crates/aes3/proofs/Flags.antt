@@ -1,8 +1,8 @@
 -- V, U and C of sixteen subframes in one number, and the bodies that they make with the samples. Assumes nothing.
 use mathlib.Core.Path.{_≡_, refl, sym, ap, ap₂, _∙_}
-use mathlib.Core.Bool.{Bool, true}
+use mathlib.Core.Bool.{true}
 use mathlib.Core.List.{List, [], _∷_}
-use Prim.Native.Nat.{ℕ, zero, suc, _+_, _-_, _*_, _/_, _%_, _^_, _<_}
+use Prim.Native.Nat.{ℕ, suc, _+_, _-_, _*_, _/_, _%_, _^_, _<_}
 use native.Mathlib.Omega.{arith}
 use native.Mathlib.Numerals.{add-one}
 use lib.IntN.{ℤ, pos}
@@ -12,7 +12,6 @@ use Rattle.bits.specs.Listed.{listed}
 use Rattle.bits.proofs.Every.{agree}
 use Rattle.bits.proofs.Lists.{length-listed, getD-listed}
 use Rattle.subframe.specs.Signed.{inRange, codeOf}
-use Rattle.subframe.specs.Body.{bodyOf}
 use Rattle.subframe.proofs.SignedLaws.{code-lt}
 use Rattle.subframe.proofs.SideLaws.{side-lt, side-in}
 use Rattle.subframe.proofs.BodyTrips.{written-in}
@@ -137,19 +136,6 @@ module _ (side : List ℕ) (i : ℕ) where
   unfolding flags
   flags-lt = omega (arith, flag-lt 0, flag-lt 1, flag-lt 2)
 
-  module _ (all : ℕ) (e : all ≡ flagsFrom side i (16 - i % 16)) where
-    open-flags : all ≡ flags side i + 16 * flagsFrom side (i + 1) (15 - i % 16)
-    unfolding flagsFrom
-    open-flags = let n : 16 - i % 16 ≡ suc (15 - i % 16) = omega arith in e ∙ rw (n, add-one i)
-
-    pub flags-first : all % 8 ≡ flags side i
-    flags-first = omega (arith, open-flags, flags-lt)
-
-    pub flags-rest : 0 < (i + 1) % 16 → all / 16 ≡ flagsFrom side (i + 1) (16 - (i + 1) % 16)
-    flags-rest h =
-        let n : 16 - (i + 1) % 16 ≡ 15 - i % 16 = omega arith in
-        rw n (omega (arith, open-flags, flags-lt))
-
   -- with a sample's bits they are the body
   pub body-with : (samples : List ℤ) (x : ℕ) → inRange 24 (getD samples i (pos 0)) ≡ true
       → x ≡ codeOf 24 (getD samples i (pos 0)) + flags side i * 16777216 → bodyWith x ≡ bodyAt samples side i
@@ -160,3 +146,12 @@ module _ (side : List ℕ) (i : ℕ) where
       let f = fields x (codeOf 24 z) (sideAt side 0 i) (sideAt side 1 i) (sideAt side 2 i) h (flag-lt 0) (flag-lt 1) (flag-lt 2) e in
       rw (f .0, f .1, f .2, f .3)
       (sym (body-told samples side i refl refl refl refl (written-in z (sideAt side 0 i) (sideAt side 1 i) (sideAt side 2 i) r (flag-lt 0) (flag-lt 1) (flag-lt 2))))
+
+-- the flags of a frame's two subframes, and those after them
+pub flags-frame : (side : List ℕ) (i n all : ℕ) → all ≡ flagsFrom side i (suc (suc n))
+    → (all % 8 ≡ flags side i) × (all / 16 % 8 ≡ flags side (i + 1)) × (all / 256 ≡ flagsFrom side (i + 2) n)
+unfolding flagsFrom
+flags-frame side i n all e =
+    let s : i + 2 ≡ suc (suc i) = omega arith in
+    let a : all ≡ flags side i + 16 * (flags side (i + 1) + 16 * flagsFrom side (i + 2) n) = e ∙ rw (add-one i, s) in
+    (omega (arith, a, flags-lt side i), omega (arith, a, flags-lt side i, flags-lt side (i + 1)), omega (arith, a, flags-lt side i, flags-lt side (i + 1)))

@@ -1,36 +1,31 @@
 -- Lines there and back: what is written from bodies is read as these bodies, what is read is written as the same line, and an even body leaves
 -- the level as it was. Assumes nothing.
-use mathlib.Core.Path.{_≡_, refl, sym, ap, ap₂, _∙_}
-use mathlib.Core.Bool.{Bool, true, false, not}
-use mathlib.Core.List.{List, [], _∷_, _++_}
-use Prim.Native.Nat.{ℕ, zero, suc, _+_, _*_, _/_, _%_, _^_, _<_, _≤_}
+use mathlib.Core.Path.{_≡_, refl, sym, ap, _∙_}
+use mathlib.Core.Bool.{Bool, true, false}
+use mathlib.Core.List.{_++_}
+use Prim.Native.Nat.{ℕ, _+_, _*_, _/_, _%_, _^_}
 use native.Mathlib.Omega.{arith}
 use borrow.Author.Tests.{eq-eqb, eqb-true}
 use lib.Dec.{eqb}
-use lib.ListN.{length, take, drop, getD, length-append, length-drop, take-append-drop}
+use lib.ListN.{length, take, drop, length-append, length-drop, take-append-drop}
 use lib.Seq.{take-at, drop-at, length-take-le}
 use Rattle.bits.specs.Pick.{pick}
-use Rattle.bits.specs.Row.{Row, odd, bits, bigBits, little, big, count, parity, even, Below}
+use Rattle.bits.specs.Row.{Row, bigBits, little, big, parity, even}
 use Rattle.bits.specs.Window.{window}
-use Rattle.bits.specs.Pack.{chain, octets, symbols}
-use Rattle.bits.proofs.Rows.{length-bits, little-lt, little-bits, bits-little, bigBits-big, big-lt}
-use Rattle.bits.proofs.Windows.{part-in, part-all}
-use Rattle.bits.proofs.Packing.{highest, length-chain, length-pack, pack-below, octets-symbols, symbols-octets}
-use Rattle.bits.proofs.Bounds.{below-take, below-drop}
-use Rattle.line.specs.Preamble.{preambleX, preambleY, preambleZ, afterLevel}
+use Rattle.bits.proofs.Rows.{length-bits, little-lt, little-bits, bits-little, bigBits-big}
+use Rattle.bits.proofs.Windows.{part-in}
 use Rattle.line.specs.Biphase.{slots, left, changing, held}
-use Rattle.line.proofs.BiphaseLaws.{length-slots, length-held, held-slots, changing-slots, slots-held, left-append, level-kept}
+use Rattle.line.proofs.BiphaseLaws.{length-held, held-slots, changing-slots, slots-held, left-append, level-kept}
 use Rattle.subframe.specs.Body.{Proper}
 use Rattle.subframe.specs.Body.{slots as slotsOf}
-use Rattle.aes3.specs.Subframe.{due, preamble, subframe, bodyHeld, subframeRead}
-use Rattle.aes3.specs.Line.{lineFrom, LineRead, LineRead.All, LineRead.Stopped, before, bodiesFrom, levelBefore, bodiesOn}
+use Rattle.aes3.specs.Subframe.{preamble, subframe, bodyHeld, subframeRead}
 use Rattle.aes3.specs.declared.SubframeAnswer.{SubframeAnswer}
 use Rattle.aes3.specs.declared.SubframeAnswer.the-variants.{Body, Refused}
-use Rattle.aes3.proofs.Writing.{length-preamble, left-preamble, slots-of, length-subframe}
+use Rattle.aes3.proofs.Writing.{length-preamble, left-preamble, slots-of}
 
 -- ---- a subframe there and back
 
-window-first : (p s : Row) → length p ≡ 8 → window (p ++ s) 0 8 ≡ big p
+pub window-first : (p s : Row) → length p ≡ 8 → window (p ++ s) 0 8 ≡ big p
 unfolding window
 window-first p s h = ap big (part-in (p ++ s) 0 8 (rw length-append (omega arith)) ∙ take-at p s 8 h)
 
@@ -120,3 +115,7 @@ unfolding subframe
 level-returns i l b p =
     left-append l (preamble i l) (slots (left l (preamble i l)) (slotsOf b))
     ∙ rw (left-preamble i l) (level-kept l (slotsOf b) (rw (slots-of b, length-bits 28 (b / 16)) refl) (p .evenly))
+
+-- and so does a subframe that is accepted
+pub level-read : (i : ℕ) (l : Bool) (s : Row) (b : ℕ) → length s ≡ 64 → subframeRead i l s ≡ Body b → left l s ≡ l
+level-read i l s b n e = ap (left l) (sym (written-read i l s b n e)) ∙ level-returns i l b (read-proper i l s b n e)

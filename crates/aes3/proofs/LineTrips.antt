@@ -1,15 +1,14 @@
 -- Whole lines there and back, over bodies, and the level that a line leaves. Assumes nothing.
-use mathlib.Core.Path.{_≡_, refl, sym, ap, ap₂, _∙_, subst}
+use mathlib.Core.Path.{_≡_, refl, sym, ap, _∙_, subst}
 use mathlib.Core.Bool.{Bool, true, false, not}
-use mathlib.Core.List.{List, [], _∷_, _++_, map}
-use Prim.Native.Nat.{ℕ, zero, suc, _+_, _-_, _*_, _/_, _^_, _<_}
+use mathlib.Core.List.{List, [], _∷_, _++_}
+use Prim.Native.Nat.{ℕ, zero, suc, _+_, _-_, _*_}
 use native.Mathlib.Omega.{arith}
 use lib.ListN.{length, take, drop, getD, length-append, length-drop, take-append-drop}
 use lib.Seq.{take-at, drop-at, length-take-le}
-use Rattle.bits.specs.Row.{Row, odd, bigBits, big, Below}
-use Rattle.bits.specs.Window.{window}
-use Rattle.bits.specs.Pack.{chain, pack, octets, symbols}
-use Rattle.bits.proofs.Windows.{part-in, part-all}
+use Rattle.bits.specs.Row.{Row, bigBits, big, Below}
+use Rattle.bits.specs.Pack.{chain, octets, symbols}
+use Rattle.bits.proofs.Windows.{part-all}
 use Rattle.bits.proofs.Packing.{highest, chain-append, length-chain, length-pack, octets-symbols, symbols-octets}
 use Rattle.bits.proofs.Bounds.{below-take, below-drop}
 use Rattle.line.specs.Preamble.{afterLevel}
@@ -21,7 +20,7 @@ use Rattle.aes3.specs.Subframe.{due, preamble, subframe, subframeRead}
 use Rattle.aes3.specs.Line.{lineFrom, LineRead, LineRead.All, LineRead.Stopped, before, bodiesFrom, levelBefore, bodiesOn}
 use Rattle.aes3.specs.declared.SubframeAnswer.{SubframeAnswer}
 use Rattle.aes3.specs.declared.SubframeAnswer.the-variants.{Body, Refused}
-use Rattle.aes3.proofs.Writing.{length-preamble, length-subframe}
+use Rattle.aes3.proofs.Writing.{length-subframe}
 use Rattle.aes3.proofs.LineLaws.{read-written, read-proper, written-read, level-returns}
 
 -- every number of a list is a body

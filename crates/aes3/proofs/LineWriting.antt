@@ -1,47 +1,54 @@
--- A line written subframe by subframe: the turn of the loop, and its end. Assumes nothing.
-use mathlib.Core.Path.{_≡_, sym, ap, _∙_}
-use mathlib.Core.List.{List, [], _∷_, _++_}
-use Prim.Native.Nat.{ℕ, _+_, _*_, _≤_, _<_}
+-- A line written frame by frame: the turn of the loop, and its end. Assumes nothing.
+use mathlib.Core.Path.{_≡_, sym, ap, ap₂, _∙_}
+use mathlib.Core.Bool.{Bool}
+use mathlib.Core.List.{List, _++_, append-assoc, append-nil}
+use Prim.Native.Nat.{ℕ, suc, _+_, _≤_, _<_}
 use native.Mathlib.Omega.{arith}
 use native.Mathlib.Numerals.{add-one}
-use borrow.Author.Tests.{eq-eqb}
-use lib.IntN.{ℤ}
-use lib.ListN.{length, take, drop, getD, drop-of-length-le}
-use lib.Seq.{drop-cons}
-use Rattle.bits.specs.Row.{digit, odd, big}
+use lib.ListN.{length, take, drop, getD, length-append, length-drop, drop-of-length-le}
+use lib.Seq.{drop-cons, take-at, drop-at}
+use Rattle.bits.specs.Row.{big}
 use Rattle.bits.specs.Pack.{octets}
-use Rattle.bits.proofs.Digits.{digit-lt, odd-digit}
 use Rattle.bits.proofs.Packing.{length-pack}
 use Rattle.bits.proofs.Filling.{filled-part, filled-all}
-use Rattle.line.specs.Biphase.{left}
-use Rattle.block.specs.Block.{bodiesOf, bodyGiven}
+use Rattle.subframe.specs.Body.{Proper}
 use Rattle.aes3.specs.Subframe.{subframe}
 use Rattle.aes3.specs.Line.{lineFrom}
+use Rattle.aes3.proofs.LineLaws.{level-returns}
 
--- the body that is asked for, of a block with the right lengths
-pub body-given : (samples : List ℤ) (side : List ℕ) (i body : ℕ) → length samples ≡ 384 → length side ≡ 144 → body ≡ bodyGiven samples side i
-    → body ≡ getD (bodiesOf samples side) i 0
-unfolding bodyGiven
-body-given samples side i body n m e = rw (eq-eqb (length samples) 384 n, eq-eqb (length side) 144 m) at e
-
--- body i came back from the subframe's writer as the octets o, and the level r
-module _ (line bodies o : List ℕ) (i level body r : ℕ) (h : i < length bodies) (b : body ≡ getD bodies i 0)
-    (e : o ≡ octets 8 (subframe i (odd level) body)) (g : r ≡ digit (left (odd level) (subframe i (odd level) body))) where
-  next : lineFrom i (odd level) (drop i bodies) ≡ o ++ lineFrom (i + 1) (odd r) (drop (i + 1) bodies)
-  unfolding lineFrom
-  next = rw (drop-cons bodies i 0 h, add-one i, g, e, odd-digit, b)
-
-  pub turn-level : r < 2
-  turn-level = rw g (digit-lt (left (odd level) (subframe i (odd level) body)))
-
-  pub turn : (post whole : List ℕ) → i * 8 ≤ length line → take (i * 8) line ++ lineFrom i (odd level) (drop i bodies) ≡ whole
-      → take ((i + 1) * 8) (take (i * 8) line ++ (o ++ post)) ++ lineFrom (i + 1) (odd r) (drop (i + 1) bodies) ≡ whole
-  turn post whole m q =
-      let n : (i + 1) * 8 ≡ i * 8 + 8 = omega arith in
-      let z : length o ≡ 8 = ap length e ∙ length-pack big 8 8 (subframe i (odd level) body) in
-      rw n (filled-part line o post (lineFrom (i + 1) (odd r) (drop (i + 1) bodies)) whole (i * 8) 8 m z (rw next at q))
-
-pub all-written : (line bodies whole : List ℕ) (i level : ℕ) → length bodies ≤ i → length line ≤ i * 8
-    → take (i * 8) line ++ lineFrom i (odd level) (drop i bodies) ≡ whole → line ≡ whole
+-- a proper body leaves the level as it was
+next-subframe : (bodies : List ℕ) (i b : ℕ) (l : Bool) → i < length bodies → b ≡ getD bodies i 0 → Proper b
+    → lineFrom i l (drop i bodies) ≡ octets 8 (subframe i l b) ++ lineFrom (suc i) l (drop (suc i) bodies)
 unfolding lineFrom
-all-written line bodies whole i level h g q = filled-all line whole (i * 8) g (rw (drop-of-length-le bodies {i = i} h) at q)
+next-subframe bodies i b l h e p = rw (drop-cons bodies i 0 h, ← e, level-returns i l b p)
+
+-- two halves of sixteen octets, laid one after the other
+pub halves-laid : (part o p : List ℕ) → length part ≡ 16 → length o ≡ 8
+    → take 8 (o ++ drop 8 part) ++ (p ++ drop 8 (drop 8 (o ++ drop 8 part))) ≡ o ++ p
+halves-laid part o p n m =
+    let e : length (drop 8 part) ≤ 8 = rw (length-drop 8 part) (omega arith) in
+    rw (take-at o (drop 8 part) 8 m, drop-at o (drop 8 part) 8 m, drop-of-length-le (drop 8 part) {i = 8} e, append-nil)
+
+-- bodies i and i + 1 came back from the frame's writer as the octets o
+module _ (bodies o : List ℕ) (i a b : ℕ) (l : Bool) (h : i + 1 < length bodies) (ea : a ≡ getD bodies i 0) (eb : b ≡ getD bodies (i + 1) 0)
+    (pa : Proper a) (pb : Proper b) (e : o ≡ octets 8 (subframe i l a) ++ octets 8 (subframe (suc i) l b)) where
+  next : lineFrom i l (drop i bodies) ≡ o ++ lineFrom (i + 2) l (drop (i + 2) bodies)
+  next =
+      let s : i + 2 ≡ suc (suc i) = omega arith in
+      next-subframe bodies i a l (omega arith) ea pa
+      ∙ ap (λ (r : List ℕ). octets 8 (subframe i l a) ++ r) (next-subframe bodies (suc i) b l (omega arith) (rw add-one at eb) pb)
+      ∙ rw (s, e) (sym (append-assoc (octets 8 (subframe i l a)) (octets 8 (subframe (suc i) l b)) (lineFrom (suc (suc i)) l (drop (suc (suc i)) bodies))))
+
+  frame-long : length o ≡ 16
+  frame-long =
+      ap length e ∙ length-append (octets 8 (subframe i l a)) (octets 8 (subframe (suc i) l b))
+      ∙ ap₂ _+_ (length-pack big 8 8 (subframe i l a)) (length-pack big 8 8 (subframe (suc i) l b))
+
+  pub frame-turn : (part post whole : List ℕ) (n : ℕ) → n ≤ length part → take n part ++ lineFrom i l (drop i bodies) ≡ whole
+      → take (n + 16) (take n part ++ (o ++ post)) ++ lineFrom (i + 2) l (drop (i + 2) bodies) ≡ whole
+  frame-turn part post whole n m q = filled-part part o post (lineFrom (i + 2) l (drop (i + 2) bodies)) whole n 16 m frame-long (rw next at q)
+
+pub all-written : (line bodies whole : List ℕ) (i n : ℕ) (l : Bool) → length bodies ≤ i → length line ≤ n
+    → take n line ++ lineFrom i l (drop i bodies) ≡ whole → line ≡ whole
+unfolding lineFrom
+all-written line bodies whole i n l h g q = filled-all line whole n g (rw (drop-of-length-le bodies {i = i} h) at q)

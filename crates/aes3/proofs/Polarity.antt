@@ -1,5 +1,5 @@
 -- A line with every symbol inverted is read as the same bodies, or refused for the same number and place. Assumes nothing.
-use mathlib.Core.Path.{_≡_, refl, sym, ap, ap₂, _∙_}
+use mathlib.Core.Path.{_≡_, refl, sym, ap, _∙_}
 use mathlib.Core.Bool.{Bool, true, false, not}
 use mathlib.Core.List.{List, [], _∷_, map}
 use Prim.Native.Nat.{ℕ, zero, suc, _-_, _*_, _≤_, _<_}
@@ -9,17 +9,19 @@ use lib.ListN.{length, take, drop, getD, length-drop}
 use lib.Seq.{length-take-le}
 use Rattle.bits.specs.Row.{Row, big, Below}
 use Rattle.bits.specs.Window.{window}
-use Rattle.bits.specs.Pack.{chain, pack, octets, symbols}
+use Rattle.bits.specs.Pack.{symbols}
 use Rattle.bits.proofs.Tests.{eqb-same}
 use Rattle.bits.proofs.Windows.{part-in}
-use Rattle.bits.proofs.Packing.{highest, length-chain, length-pack, octets-symbols}
+use Rattle.bits.proofs.Packing.{highest, length-chain}
 use Rattle.bits.proofs.Bounds.{below-take, below-drop}
 use Rattle.bits.proofs.Inverting.{length-map, take-map, drop-map, not-twice, big-same, symbols-inverted}
 use Rattle.line.specs.Preamble.{afterLevel}
-use Rattle.line.specs.Biphase.{left, changing, held}
+use Rattle.line.specs.Biphase.{left}
 use Rattle.line.proofs.BiphaseLaws.{held-not, changing-not, left-not}
 use Rattle.aes3.specs.Subframe.{due, preamble, bodyHeld, subframeRead}
-use Rattle.aes3.specs.Line.{LineRead, before, bodiesFrom, levelBefore, bodiesOn, inverted}
+use Rattle.line.specs.Polarity.{inverted}
+use Rattle.line.proofs.Inverted.{inverted-octets}
+use Rattle.aes3.specs.Line.{bodiesFrom, levelBefore, bodiesOn}
 use Rattle.aes3.proofs.Writing.{length-preamble}
 
 -- ---- a subframe
@@ -60,22 +62,6 @@ read-not i l s h =
 
 abbrev turned : List ℕ → List ℕ
 turned os = map (λ o. 255 - o) os
-
-below-turned : (os : List ℕ) → Below 256 (turned os)
-below-turned [] i = omega arith
-below-turned (o ∷ os) zero = omega arith
-below-turned (o ∷ os) (suc i) = below-turned os i
-
--- inverting every symbol of an octet takes it from 255
-pub inverted-octets : (os : List ℕ) → Below 256 os → inverted os ≡ turned os
-unfolding inverted
-inverted-octets os h =
-    ap (octets (length os)) (sym (symbols-inverted os h))
-    ∙ rw (length-map (λ o. 255 - o) os) at (octets-symbols (turned os) (below-turned os))
-
-pub length-inverted : (os : List ℕ) → length (inverted os) ≡ length os
-unfolding inverted
-length-inverted os = length-pack big 8 (length os) (map not (symbols os))
 
 from-not : (n i : ℕ) (l : Bool) (os : List ℕ) → length os ≡ n * 8 → Below 256 os → bodiesFrom n i (not l) (turned os) ≡ bodiesFrom n i l os
 unfolding bodiesFrom

@@ -1,27 +1,27 @@
--- A subframe, octet by octet, as its writer goes. Assumes nothing.
+-- A subframe as the writer goes: its preamble, its symbols as a number, and their octets. Assumes nothing.
 use mathlib.Core.Path.{_≡_, refl, sym, ap, _∙_}
-use mathlib.Core.Bool.{Bool, true, false}
-use mathlib.Core.List.{List, [], _∷_, _++_}
-use Prim.Native.Nat.{ℕ, zero, suc, _+_, _-_, _*_, _/_, _%_, _<_}
+use mathlib.Core.Bool.{Bool, true, false, not}
+use mathlib.Core.List.{List, [], _∷_, _++_, map}
+use Prim.Native.Nat.{ℕ, _+_, _-_, _*_, _/_, _%_, _^_, _≤_, _<_}
+use native.Mathlib.Nat.{zero-add, mod-eq-of-lt}
 use native.Mathlib.Omega.{arith}
+use borrow.Author.Tests.{ne-eqb}
 use lib.Dec.{eqb}
-use lib.ListN.{length, drop, set, getD, length-append}
-use lib.Seq.{take-at, drop-at}
+use lib.ListN.{length, set, length-append}
 use Rattle.bits.specs.Pick.{pick}
-use Rattle.bits.specs.Row.{Row, odd, digit, bits, bigBits, big}
-use Rattle.bits.specs.Window.{part}
-use Rattle.bits.specs.Pack.{pack, octets, symbols}
+use Rattle.bits.specs.Row.{Row, odd, bits, bigBits, big}
+use Rattle.bits.specs.Window.{window}
+use Rattle.bits.specs.Pack.{pack, octets}
 use Rattle.bits.proofs.Tests.{pick-cases}
-use Rattle.bits.proofs.Digits.{digit-odd}
-use Rattle.bits.proofs.Rows.{length-bits}
-use Rattle.bits.proofs.Windows.{part-in, part-all}
-use Rattle.bits.proofs.Packing.{length-pack, symbols-octets}
+use Rattle.bits.proofs.Rows.{length-bits, length-bigBits, big-append, big-bigBits, bigBits-big}
+use Rattle.bits.proofs.Windows.{part-all, part-drop, window-inside}
+use Rattle.bits.proofs.Inverting.{length-map, map-append, big-not}
 use Rattle.line.specs.Preamble.{preambleX, preambleY, preambleZ, afterLevel}
 use Rattle.line.specs.Biphase.{slots, left}
-use Rattle.line.proofs.BiphaseLaws.{length-slots}
-use Rattle.line.proofs.BiphaseOctets.{four-slots, eight-first, eight-slots, left-octets}
+use Rattle.line.proofs.BiphaseLaws.{length-slots, slots-not}
 use Rattle.subframe.specs.Body.{slots as slotsOf}
 use Rattle.aes3.specs.Subframe.{due, preamble, subframe}
+use Rattle.aes3.specs.Inner.{opened}
 
 -- ---- the preambles
 
@@ -34,11 +34,6 @@ due-cases P x y z i =
 pub due-lt : (i : ℕ) → big (due i) < 256
 unfolding bigBits big
 due-lt = due-cases (λ r. big r < 256) (omega arith) (omega arith) (omega arith)
-
--- after level 1 all symbols are inverted
-pub due-inverted : (i : ℕ) → 255 - big (due i) ≡ big (preamble i true)
-unfolding preamble afterLevel bigBits big
-due-inverted = due-cases (λ r. 255 - big r ≡ big (afterLevel true r)) refl refl refl
 
 pub length-preamble : (i : ℕ) (l : Bool) → length (preamble i l) ≡ 8
 unfolding preamble afterLevel bigBits
@@ -57,7 +52,7 @@ unfolding preamble afterLevel bigBits big
 odd-preamble i true = due-cases (λ r. odd (big (afterLevel true r)) ≡ true) refl refl refl i
 odd-preamble i false = due-cases (λ r. odd (big (afterLevel false r)) ≡ false) refl refl refl i
 
--- ---- a subframe in octets
+-- ---- a subframe
 
 pub slots-of : (b : ℕ) → slotsOf b ≡ bits 28 (b / 16)
 unfolding slotsOf
@@ -67,54 +62,61 @@ pub length-subframe : (i : ℕ) (l : Bool) (b : ℕ) → length (subframe i l b)
 unfolding subframe
 length-subframe i l b = rw (length-append, length-preamble, length-slots, slots-of, length-bits)
 
-octets-first : (n : ℕ) (p s : Row) → length p ≡ 8 → octets (suc n) (p ++ s) ≡ big p ∷ octets n s
-unfolding pack
-octets-first n p s h =
-    rw (part-in (p ++ s) 0 8 (rw length-append (omega arith)), take-at p s 8 h, drop-at p s 8 h)
+-- ---- a body behind the octet of a preamble
 
--- the octets that the writer lays: the preamble, and of the slots' sixteen symbols the higher and the lower half
-module _ (i : ℕ) (l : Bool) (body : ℕ) where
-  abbrev x : ℕ
-  x = body / 16
+slots-long : (b : ℕ) → length (slots false (slotsOf b)) ≡ 56
+slots-long b = rw (slots-of b, length-slots false (bits 28 (b / 16)), length-bits 28 (b / 16))
 
-  abbrev pub a : ℕ
-  a = big (slots l (bits 8 x))
+pub big-opened : (m b : ℕ) → m < 256 → big (opened m false b) ≡ m * 2 ^ 56 + big (slots false (bits 28 (b / 16)))
+unfolding opened afterLevel
+big-opened m b h =
+    (rw (slots-long b) at (big-append (bigBits 8 m) (slots false (slotsOf b))))
+    ∙ ap (λ (o : ℕ). o * 2 ^ 56 + big (slots false (slotsOf b))) (big-bigBits 8 m ∙ mod-eq-of-lt h) ∙ rw (slots-of b)
 
-  abbrev pub b : ℕ
-  b = big (slots (odd a) (bits 8 (x / 256)))
+length-opened : (m b : ℕ) → length (opened m false b) ≡ 64
+unfolding opened afterLevel
+length-opened m b = rw (length-append, length-bigBits 8 m, slots-long b)
 
-  abbrev pub c : ℕ
-  c = big (slots (odd b) (bits 8 (x / 65536)))
+-- where the octet is that of the preamble that is due, it is the subframe
+pub opened-due : (i : ℕ) (l : Bool) (b : ℕ) → opened (big (due i)) l b ≡ subframe i l b
+unfolding opened subframe preamble afterLevel
+opened-due i l b = go l
+  where
+    due-row : bigBits 8 (big (due i)) ≡ due i
+    due-row = rw (length-preamble i false) at (bigBits-big (due i))
 
-  abbrev pub d : ℕ
-  d = big (slots (odd c) (bits 8 (x / 16777216)))
+    go : (k : Bool) → opened (big (due i)) k b ≡ subframe i k b
+    go true =
+        rw (due-row, left-preamble i true)
+        (map-append not (due i) (slots false (slotsOf b)) ∙ ap (λ (s : Row). map not (due i) ++ s) (sym (slots-not false (slotsOf b))))
+    go false = rw (due-row, left-preamble i false)
 
-  pub subframe-octets : octets 8 (subframe i l body)
-      ≡ big (preamble i l) ∷ a / 256 ∷ a % 256 ∷ b / 256 ∷ b % 256 ∷ c / 256 ∷ c % 256 ∷ d / 256 ∷ []
-  unfolding subframe pack
-  subframe-octets =
-      let q : x / 256 / 256 ≡ x / 65536 = omega arith in
-      let r : x / 65536 / 256 ≡ x / 16777216 = omega arith in
-      rw (
-        slots-of body,
-        left-preamble i l,
-        octets-first 7 (preamble i l) (slots l (bits 28 x)) (length-preamble i l),
-        eight-slots l x 5,
-        eight-slots (odd a) (x / 256) 3,
-        q,
-        eight-slots (odd b) (x / 65536) 1,
-        r,
-        four-slots 0 (odd c) (x / 16777216),
-        ← eight-first (odd c) (x / 16777216),
-      )
+-- X opens an even subframe that is not the first, Y an odd one
+pub due-even : (i : ℕ) → 0 < i → i % 2 ≡ 0 → 226 ≡ big (due i)
+unfolding due bigBits big
+due-even i h e = rw (ne-eqb i 0 (λ z. omega arith), e)
 
-  -- and the level that they leave
-  pub subframe-level : digit (left l (subframe i l body)) ≡ d / 256 % 2
-  subframe-level =
-      let s : symbols (octets 8 (subframe i l body)) ≡ subframe i l body = symbols-octets 8 (subframe i l body) ∙ part-all (subframe i l body) 64 (length-subframe i l body) in
-      let e : left l (subframe i l body) ≡ odd (d / 256) =
-      ap (left l) (sym s) ∙ left-octets l (octets 8 (subframe i l body)) 7 (length-pack big 8 8 (subframe i l body)) ∙ ap (λ os. odd (getD os 7 0)) subframe-octets in
-      rw e (digit-odd (d / 256))
+pub due-odd : (i : ℕ) → i % 2 ≡ 1 → 228 ≡ big (due i)
+unfolding due bigBits big
+due-odd i e = rw (ne-eqb i 0 (λ z. omega arith), e)
+
+-- ---- 64 symbols as a number
+
+-- inverted where a level says so
+pub bits-turned : (l : Bool) (s : Row) → length s ≡ 64 → bigBits 64 (pick l (18446744073709551615 - big s) (big s)) ≡ pick l (map not s) s
+bits-turned true s n =
+    let e : big (map not s) + big s + 1 ≡ 2 ^ 64 = rw n at (big-not s) in
+    let m : 18446744073709551615 - big s ≡ big (map not s) = omega arith in
+    ap (bigBits 64) m ∙ rw (length-map not s ∙ n) at (bigBits-big (map not s))
+bits-turned false s n = rw n at (bigBits-big s)
+
+pub opened-turned : (m : ℕ) (l : Bool) (b : ℕ) → bigBits 64 (pick l (18446744073709551615 - big (opened m false b)) (big (opened m false b))) ≡ opened m l b
+unfolding opened afterLevel
+opened-turned m l b = bits-turned l (opened m false b) (length-opened m b) ∙ go l
+  where
+    go : (k : Bool) → pick k (map not (opened m false b)) (opened m false b) ≡ opened m k b
+    go true = refl
+    go false = refl
 
 -- eight octets laid one after the other
 pub laid : (os : List ℕ) (o0 o1 o2 o3 o4 o5 o6 o7 : ℕ) → length os ≡ 8
@@ -130,16 +132,38 @@ laid (p ∷ q ∷ r ∷ s ∷ t ∷ []) o0 o1 o2 o3 o4 o5 o6 o7 h = absurd (omeg
 laid (p ∷ q ∷ r ∷ s ∷ t ∷ u ∷ []) o0 o1 o2 o3 o4 o5 o6 o7 h = absurd (omega arith)
 laid (p ∷ q ∷ r ∷ s ∷ t ∷ u ∷ v ∷ []) o0 o1 o2 o3 o4 o5 o6 o7 h = absurd (omega arith)
 
--- what the writer of a subframe leaves: the preamble's octet m, and of each sixteen symbols the higher and the lower half
-module _ (i : ℕ) (l : Bool) (body : ℕ) (os : List ℕ) (m p q r s : ℕ) (n : length os ≡ 8) (em : m ≡ big (preamble i l))
-    (ep : p ≡ big (slots l (bits 8 (body / 16)))) (eq : q ≡ big (slots (odd p) (bits 8 (body / 16 / 256))))
-    (er : r ≡ big (slots (odd q) (bits 8 (body / 16 / 65536)))) (es : s ≡ big (slots (odd r) (bits 8 (body / 16 / 16777216)))) where
-  pub subframe-laid
-      : set (set (set (set (set (set (set (set os 0 m) 1 (p / 256)) 2 (p % 256)) 3 (q / 256)) 4 (q % 256)) 5 (r / 256)) 6 (r % 256)) 7 (s / 256)
-      ≡ octets 8 (subframe i l body)
-  subframe-laid =
-      laid os m (p / 256) (p % 256) (q / 256) (q % 256) (r / 256) (r % 256) (s / 256) n
-      ∙ rw (es, er, eq, ep, em) (sym (subframe-octets i l body))
+-- the octets of a word
+module _ (w : ℕ) (h : w < 2 ^ 64) where
+  abbrev row : Row
+  row = bigBits 64 w
 
-  pub level-laid : s / 256 % 2 ≡ digit (left l (subframe i l body))
-  level-laid = rw (es, er, eq, ep) (sym (subframe-level i l body))
+  whole : window row 0 64 ≡ w
+  unfolding window
+  whole = ap big (part-all row 64 (length-bigBits 64 w)) ∙ big-bigBits 64 w ∙ mod-eq-of-lt h
+
+  octet : (a : ℕ) → a + 8 ≤ 64 → w / 2 ^ (64 - (a + 8)) % 2 ^ 8 ≡ window row a 8
+  octet a n = ap (λ (x : ℕ). x / 2 ^ (64 - (a + 8)) % 2 ^ 8) (sym whole) ∙ window-inside row 0 64 a 8 n ∙ rw zero-add
+
+  windows : octets 8 row
+      ≡ window row 0 8 ∷ window row 8 8 ∷ window row 16 8 ∷ window row 24 8 ∷ window row 32 8 ∷ window row 40 8 ∷ window row 48 8 ∷ window row 56 8 ∷ []
+  unfolding pack window
+  windows = simp part-drop
+
+  pub word-laid : (os : List ℕ) → length os ≡ 8
+      → set (set (set (set (set (set (set (set os 0 (w / 72057594037927936)) 1 (w / 281474976710656 % 256)) 2 (w / 1099511627776 % 256)) 3 (w / 4294967296 % 256)) 4 (w / 16777216 % 256)) 5 (w / 65536 % 256)) 6 (w / 256 % 256)) 7 (w % 256)
+      ≡ octets 8 row
+  word-laid os n =
+      let first : w / 72057594037927936 ≡ w / 72057594037927936 % 256 = omega arith in
+      let last : w % 256 ≡ w / 1 % 256 = omega arith in
+      laid os (w / 72057594037927936) (w / 281474976710656 % 256) (w / 1099511627776 % 256) (w / 4294967296 % 256) (w / 16777216 % 256) (w / 65536 % 256)
+      (w / 256 % 256) (w % 256) n
+      ∙ rw (
+        first ∙ octet 0 (omega arith),
+        octet 8 (omega arith),
+        octet 16 (omega arith),
+        octet 24 (omega arith),
+        octet 32 (omega arith),
+        octet 40 (omega arith),
+        octet 48 (omega arith),
+        last ∙ octet 56 (omega arith),
+      ) (sym windows)

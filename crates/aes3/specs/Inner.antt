@@ -1,14 +1,13 @@
 -- Clauses that only inner functions need. Assumes nothing.
-use Prim.Native.Nat.{ℕ, zero, suc, _+_, _*_, _/_, _%_, _^_}
-use mathlib.Core.Bool.{false}
-use mathlib.Core.List.{List}
-use lib.ListN.{drop, getD}
-use Rattle.bits.specs.Pick.{pick}
-use Rattle.bits.specs.Row.{odd, bit, bits, bigBits, little, big}
-use Rattle.bits.specs.Pack.{symbols}
+use Prim.Native.Nat.{ℕ, zero, suc, _+_, _*_, _%_, _^_}
+use mathlib.Core.Bool.{Bool, false}
+use mathlib.Core.List.{List, _++_}
+use Rattle.bits.specs.Row.{Row, bit, bits, bigBits, little, big}
 use Rattle.bits.specs.Listed.{listed}
-use Rattle.line.specs.Biphase.{slots, changing, held}
+use Rattle.line.specs.Preamble.{afterLevel}
+use Rattle.line.specs.Biphase.{slots, held}
 use Rattle.subframe.specs.Body.{bodyOf}
+use Rattle.subframe.specs.Body.{slots as slotsOf}
 use Rattle.subframe.specs.Side.{validity, user, status}
 use Rattle.block.specs.Block.{sideAt}
 use Rattle.aes3.specs.Line.{LineRead, LineRead.All, LineRead.Stopped}
@@ -18,6 +17,10 @@ use Rattle.aes3.specs.declared.Decoded.the-variants.{Whole, Refused}
 -- the sixteen symbols of the eight bits of each octet, lowest first, after level 0
 unfoldable pub eightTable : List ℕ
 eightTable = listed 0 256 (λ d. big (slots false (bits 8 d)))
+
+-- the 64 symbols of a body behind the octet m of a preamble, after a level
+unfoldable pub opened : ℕ → Bool → ℕ → Row
+opened m l body = afterLevel l (bigBits 8 m ++ slots false (slotsOf body))
 
 -- the body of 27 bits: a sample's 24, then V, U and C
 unfoldable pub bodyWith : ℕ → ℕ
@@ -40,18 +43,9 @@ spread o = bit 0 o + bit 1 o * 2 ^ 8 + bit 2 o * 2 ^ 16 + bit 3 o * 2 ^ 24 + bit
 unfoldable pub spreadTable : List ℕ
 spreadTable = listed 0 16 (λ x. bit 0 x + bit 1 x * 2 ^ 8 + bit 2 x * 2 ^ 16 + bit 3 x * 2 ^ 24)
 
--- the four bits that an octet holds after another; 128 where a slot does not begin with a change
-unfoldable pub fourHeld : ℕ → ℕ → ℕ
-fourHeld before o = pick (changing (odd before) (bigBits 8 o)) (little (held (bigBits 8 o))) 128
-
--- the same at 256 * before + o, for the two levels that the octet before can leave
-unfoldable pub backTable : List ℕ
-backTable = listed 0 512 (λ k. fourHeld (k / 256) (k % 256))
-
--- the 28 bits of slots 4 to 31, of a subframe's eight octets; 2 ^ 28 where a slot does not begin with a change
-unfoldable pub slotsHeld : List ℕ → ℕ
-slotsHeld os =
-    pick (changing (odd (getD os 0 0)) (symbols (drop 1 os))) (little (held (symbols (drop 1 os)))) 268435456
+-- the four bits that the slots of each octet hold, the first lowest
+unfoldable pub heldTable : List ℕ
+heldTable = listed 0 256 (λ o. little (held (bigBits 8 o)))
 
 -- what a loop over the subframes answered, with the bodies that it left in a buffer
 unfoldable pub decoded : Decoded → List ℕ → LineRead

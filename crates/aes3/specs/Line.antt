@@ -2,8 +2,8 @@
 -- the last symbol of the one before it. Assumes nothing.
 use Prim.Native.Nat.{ℕ, zero, suc}
 use mathlib.Core.Bool.{Bool, true, not}
-use mathlib.Core.List.{List, [], _∷_, _++_, map}
-use lib.ListN.{length, take, drop, getD}
+use mathlib.Core.List.{List, [], _∷_, _++_}
+use lib.ListN.{take, drop, getD}
 use Rattle.bits.specs.Pack.{octets, symbols}
 use Rattle.line.specs.Biphase.{left}
 use Rattle.aes3.specs.Subframe.{subframe, subframeRead}
@@ -43,9 +43,3 @@ levelBefore line = not (getD (symbols line) 0 true)
 -- the bodies of a block
 unfoldable pub bodiesOn : List ℕ → LineRead
 bodiesOn line = bodiesFrom 384 0 (levelBefore line) line
-
--- ---- polarity
-
--- a line with every symbol inverted
-unfoldable pub inverted : List ℕ → List ℕ
-inverted line = octets (length line) (map not (symbols line))

@@ -1,24 +1,28 @@
 // AES3 on the line: 384 samples and a side table written as a block of 3,072 octets, and such a block read.
 ghost use mathlib.Core.Path.{_≡_};
-ghost use mathlib.Core.Bool.{true};
-ghost use Prim.Native.Nat.{_-_, _*_, _%_, _<_};
-ghost use lib.ListN.{length};
-ghost use Rattle.bits.specs.Row.{odd, digit, bits, big};
+ghost use mathlib.Core.List.{_++_};
+ghost use mathlib.Core.Bool.{true, false};
+ghost use Prim.Native.Nat.{_+_, _-_, _*_, _<_};
+ghost use lib.IntN.{pos};
+ghost use lib.ListN.{length, drop, getD};
+ghost use Rattle.bits.specs.Pick.{pick};
+ghost use Rattle.bits.specs.Row.{odd, digit, bits, bigBits, little, big};
 ghost use Rattle.bits.specs.Pack.{octets, symbols};
-ghost use Rattle.line.specs.Biphase.{slots, left};
+ghost use Rattle.line.specs.Biphase.{slots, held};
 ghost use Rattle.subframe.specs.Signed.{inRange, codeOf};
+ghost use Rattle.block.specs.Block.{bodiesOf};
 ghost use Rattle.block.specs.Check.{statusRight, checked};
 ghost use Rattle.block.specs.declared.BlockAnswer.the-variants.{Sound};
-ghost use Rattle.aes3.specs.Subframe.{due, preamble, subframe, subframeRead, subframeNumber};
-ghost use Rattle.aes3.specs.Line.{bodiesOn};
+ghost use Rattle.aes3.specs.Subframe.{due, subframeRead, subframeNumber};
+ghost use Rattle.aes3.specs.Line.{lineFrom, bodiesOn};
 ghost use Rattle.aes3.specs.Block.{blockLine, writeAnswer, lineWritten, readAnswer, samplesRead, sideRead};
-ghost use Rattle.aes3.specs.Inner.{eightTable, bodyWith, flagsFrom, spread, spreadTable, backTable, fourHeld, slotsHeld, decoded};
+ghost use Rattle.aes3.specs.Inner.{eightTable, opened, bodyWith, flagsFrom, spread, spreadTable, heldTable, decoded};
 
 mod tables;
 
 use block::BlockAnswer;
-use tables::BACK;
 use tables::EIGHT;
+use tables::HELD;
 use tables::SPREAD;
 
 // What writing a block answers.
@@ -58,49 +62,79 @@ fn due_octet(i: usize) -> u8
     0b11100010
 }
 
-// The same after a level.
-fn mark(i: usize, level: u32) -> u8
+// 64 symbols that are written for level 0, after a level.
+fn turned(level: u32, w: u64) -> u64
     requires { ⌜ level < 2 ⌝ }
-    ensures { λ r. ⌜ r ≡ big (preamble i (odd level)) ⌝ }
+    ensures { λ r. ⌜ r ≡ pick (odd level) (18446744073709551615 - w) w ⌝ }
 {
-    let m = due_octet(i);
     if level == 0 {
-        return m;
+        return w;
     }
-    255 - m
+    18446744073709551615 - w
+}
+
+// ---- writing
+
+// Sixteen ones after symbols whose last is 1, else none: a mask, since a branch on a symbol would go wrong every other time.
+fn sixteen_ones(before: u64) -> u64
+    ensures { λ r. ⌜ r ≡ pick (odd before) 65535 0 ⌝ }
+{
+    std::num::wrapping_sub_u64(0, before % 2) % 65536
 }
 
 // The sixteen symbols of eight slots that hold the lowest bits of d, lowest first, after symbols whose last is the lowest bit of `before`.
-fn eight(table: &[u16], before: u32, d: u32) -> u32
+fn eight(table: &[u16], before: u64, d: u32) -> u64
     requires { ⌜ now table ≡ eightTable ⌝ }
     ensures { λ r. ⌜ (r ≡ big (slots (odd before) (bits 8 d))) × (r < 65536) ⌝ }
 {
     let at = (d % 256) as usize;
-    let s = table[at] as u32;
-    if before % 2 == 0 {
-        return s;
-    }
-    65535 - s
+    let s = table[at] as u64;
+    s ^ sixteen_ones(before)
 }
 
-// Subframe i into eight octets: a sample's 24 bits, V, U and C. An even body ends on the level that it began after, and so the last symbol
-// is that level.
-fn write_subframe(table: &[u16], i: usize, level: u32, word: u32, part: &mut [u8])
-    requires { ⌜ (now table ≡ eightTable) × (level < 2) × (word < 134217728) × (length (now part) ≡ 8) ⌝ }
-    ensures { λ _. ⌜ now (part .exit) ≡ octets 8 (subframe i (odd level) (bodyWith word)) ⌝ }
+// The 64 symbols of a subframe after level 0, the first highest: the octet m of its preamble, a sample's 24 bits, V, U and C. An even body
+// ends on the level that it began after, and so the last symbol is 0.
+fn subframe_word(table: &[u16], m: u64, word: u32) -> u64
+    requires { ⌜ (now table ≡ eightTable) × (m < 256) × (word < 134217728) ⌝ }
+    ensures { λ r. ⌜ r ≡ big (opened m false (bodyWith word)) ⌝ }
 {
-    let a = eight(table, level, word);
+    let a = eight(table, 0, word);
     let b = eight(table, a, word / 256);
     let c = eight(table, b, word / 65536);
     let d = eight(table, c, word / 16777216);
-    part[0] = mark(i, level);
-    part[1] = (a / 256) as u8;
-    part[2] = (a % 256) as u8;
-    part[3] = (b / 256) as u8;
-    part[4] = (b % 256) as u8;
-    part[5] = (c / 256) as u8;
-    part[6] = (c % 256) as u8;
-    part[7] = (d / 512 * 2 + level) as u8;
+    (((m * 65536 + a) * 65536 + b) * 65536 + c) * 256 + d / 512 * 2
+}
+
+// 64 symbols into eight octets.
+fn lay(w: u64, part: &mut [u8])
+    requires { ⌜ length (now part) ≡ 8 ⌝ }
+    ensures { λ _. ⌜ now (part .exit) ≡ octets 8 (bigBits 64 w) ⌝ }
+{
+    part[0] = (w / 0x100_0000_0000_0000) as u8;
+    part[1] = (w / 0x1_0000_0000_0000 % 256) as u8;
+    part[2] = (w / 0x100_0000_0000 % 256) as u8;
+    part[3] = (w / 0x1_0000_0000 % 256) as u8;
+    part[4] = (w / 0x100_0000 % 256) as u8;
+    part[5] = (w / 0x1_0000 % 256) as u8;
+    part[6] = (w / 256 % 256) as u8;
+    part[7] = (w % 256) as u8;
+}
+
+// A subframe into eight octets.
+fn write_subframe(table: &[u16], m: u64, level: u32, word: u32, part: &mut [u8])
+    requires { ⌜ (now table ≡ eightTable) × (m < 256) × (level < 2) × (word < 134217728) × (length (now part) ≡ 8) ⌝ }
+    ensures { λ _. ⌜ now (part .exit) ≡ octets 8 (opened m (odd level) (bodyWith word)) ⌝ }
+{
+    lay(turned(level, subframe_word(table, m, word)), part);
+}
+
+// A frame into sixteen octets: m opens its first subframe, Y its second.
+fn write_frame(table: &[u16], m: u64, level: u32, a: u32, b: u32, part: &mut [u8])
+    requires { ⌜ (now table ≡ eightTable) × (m < 256) × (level < 2) × (a < 134217728) × (b < 134217728) × (length (now part) ≡ 16) ⌝ }
+    ensures { λ _. ⌜ now (part .exit) ≡ octets 8 (opened m (odd level) (bodyWith a)) ++ octets 8 (opened 0b11100100 (odd level) (bodyWith b)) ⌝ }
+{
+    write_subframe(table, m, level, a, &mut part[0..8]);
+    write_subframe(table, 0b11100100, level, b, &mut part[8..16]);
 }
 
 // The 24 bits of a sample.
@@ -135,15 +169,42 @@ fn sixteen(spreads: &[u32], side: &[u8], j: usize) -> u64
     va + ua * 2 + ca * 4 + (vb + ub * 2 + cb * 4) * 16
 }
 
-// V, U and C of the subframes from i on, up to the next sixteen: what is left of the sixteen, or new ones.
-fn flags_left(spreads: &[u32], side: &[u8], i: usize, left: u64) -> u64
-    requires { ⌜ (now spreads ≡ spreadTable) × (length (now side) ≡ 144) × (i < 384) × (0 < i % 16 → left ≡ flagsFrom (now side) i (16 - i % 16)) ⌝ }
-    ensures { λ r. ⌜ r ≡ flagsFrom (now (side .entry)) i (16 - i % 16) ⌝ }
+// The 27 bits of sample i and its V, U and C.
+fn word_at(samples: &[i32], i: usize, flags: u64) -> u32
+    requires { ⌜ (length (now samples) ≡ 384) × (i < 384) × (inRange 24 (getD (now samples) i (pos 0)) ≡ true) × (flags < 8) ⌝ }
+    ensures { λ r. ⌜ (r ≡ codeOf 24 (getD (now (samples .entry)) i (pos 0)) + flags * 16777216) × (r < 134217728) ⌝ }
 {
-    if i % 16 == 0 {
-        return sixteen(spreads, side, i / 16);
+    let x = samples[i];
+    code(x) + flags as u32 * 16777216
+}
+
+// The sixteen subframes from 16 j on of a block that is sound: with the rest of the line behind them they are the line from there on.
+fn write_sixteen(
+    table: &[u16],
+    spreads: &[u32],
+    samples: &[i32],
+    side: &[u8],
+    j: usize,
+    level: u32,
+    part: &mut [u8],
+)
+    requires { ⌜ (now table ≡ eightTable) × (now spreads ≡ spreadTable) × (checked (now samples) (now side) ≡ Sound) × (length (now samples) ≡ 384) × (length (now side) ≡ 144) × (j < 24) × (level < 2) × (length (now part) ≡ 128) ⌝ }
+    ensures { λ _. ⌜ now (part .exit) ++ lineFrom (16 * j + 16) (odd level) (drop (16 * j + 16) (bodiesOf (now (samples .entry)) (now (side .entry)))) ≡ lineFrom (16 * j) (odd level) (drop (16 * j) (bodiesOf (now (samples .entry)) (now (side .entry)))) ⌝ }
+{
+    let mut left = sixteen(spreads, side, j);
+    let mut m = due_octet(16 * j) as u64;
+    let mut f: usize = 0;
+    while f < 8 {
+        let i = 16 * j + 2 * f;
+        let a = word_at(samples, i, left % 8);
+        let b = word_at(samples, i + 1, left / 16 % 8);
+        let s = f * 16;
+        let e = s + 16;
+        write_frame(table, m, level, a, b, &mut part[s..e]);
+        m = 0b11100010;
+        left = left / 256;
+        f += 1;
     }
-    left
 }
 
 // All subframes of a block that is sound into its line.
@@ -158,18 +219,23 @@ fn write_line(
     requires { ⌜ (now table ≡ eightTable) × (now spreads ≡ spreadTable) × (checked (now samples) (now side) ≡ Sound) × (length (now samples) ≡ 384) × (length (now side) ≡ 144) × (level < 2) × (length (now line) ≡ 3072) ⌝ }
     ensures { λ _. ⌜ now (line .exit) ≡ blockLine (now (samples .entry)) (now (side .entry)) level ⌝ }
 {
-    let mut left: u64 = 0;
-    let mut i: usize = 0;
-    while i < 384 {
-        let a = i * 8;
-        let e = a + 8;
-        let all = flags_left(spreads, side, i, left);
-        let x = samples[i];
-        let word = code(x) + (all % 8) as u32 * 16777216;
-        write_subframe(table, i, level, word, &mut line[a..e]);
-        left = all / 16;
-        i += 1;
+    let mut j: usize = 0;
+    while j < 24 {
+        let a = j * 128;
+        let e = a + 128;
+        write_sixteen(table, spreads, samples, side, j, level, &mut line[a..e]);
+        j += 1;
     }
+}
+
+// The same with the tables laid out.
+fn write_sound(samples: &[i32], side: &[u8], level: u32, line: &mut [u8])
+    requires { ⌜ (checked (now samples) (now side) ≡ Sound) × (length (now samples) ≡ 384) × (length (now side) ≡ 144) × (level < 2) × (length (now line) ≡ 3072) ⌝ }
+    ensures { λ _. ⌜ now (line .exit) ≡ blockLine (now (samples .entry)) (now (side .entry)) level ⌝ }
+{
+    let table = EIGHT;
+    let spreads = SPREAD;
+    write_line(&table, &spreads, samples, side, level, line);
 }
 
 // Writes a block after a level. A refusal leaves the line as it was.
@@ -205,64 +271,60 @@ pub fn write_block(samples: &[i32], side: &[u8], level: u32, line: &mut [u8]) ->
     if let BlockAnswer::Refused { number, place } = found {
         return WriteAnswer::Refused { number, place };
     }
-    let table = EIGHT;
-    let spreads = SPREAD;
-    write_line(&table, &spreads, samples, side, level, line);
+    write_sound(samples, side, level, line);
     WriteAnswer::Written
 }
 
-// The four bits that octet o holds after the octet `before`; 128 where a slot does not begin with a change.
-fn back(table: &[u8], before: u8, o: u8) -> u32
-    requires { ⌜ now table ≡ backTable ⌝ }
-    ensures { λ r. ⌜ (r ≡ fourHeld before o) × (r < 129) ⌝ }
+// ---- reading
+
+// The four bits that the slots of an octet hold.
+fn four(table: &[u8], o: u8) -> u32
+    requires { ⌜ now table ≡ heldTable ⌝ }
+    ensures { λ r. ⌜ (r ≡ little (held (bigBits 8 o))) × (r < 16) ⌝ }
 {
-    let at = (before % 2) as usize * 256 + o as usize;
-    table[at] as u32
+    table[o as usize] as u32
 }
 
-// The 28 bits of slots 4 to 31 of a subframe's eight octets; 2^28 where a slot does not begin with a change.
-fn read_slots(table: &[u8], part: &[u8]) -> u32
-    requires { ⌜ (now table ≡ backTable) × (length (now part) ≡ 8) ⌝ }
-    ensures { λ r. ⌜ r ≡ slotsHeld (now (part .entry)) ⌝ }
+// The 28 bits that slots 4 to 31 of a subframe's 64 symbols hold.
+fn read_slots(table: &[u8], w: u64) -> u32
+    requires { ⌜ now table ≡ heldTable ⌝ }
+    ensures { λ r. ⌜ (r ≡ little (held (bigBits 56 w))) × (r < 268435456) ⌝ }
 {
-    let o0 = part[0];
-    let o1 = part[1];
-    let o2 = part[2];
-    let o3 = part[3];
-    let o4 = part[4];
-    let o5 = part[5];
-    let o6 = part[6];
-    let o7 = part[7];
-    let a = back(table, o0, o1);
-    let b = back(table, o1, o2);
-    let c = back(table, o2, o3);
-    let d = back(table, o3, o4);
-    let e = back(table, o4, o5);
-    let f = back(table, o5, o6);
-    let g = back(table, o6, o7);
-    if 127 < a + b + c + d + e + f + g {
-        return 268435456;
-    }
+    let a = four(table, (w / 0x1_0000_0000_0000 % 256) as u8);
+    let b = four(table, (w / 0x100_0000_0000 % 256) as u8);
+    let c = four(table, (w / 0x1_0000_0000 % 256) as u8);
+    let d = four(table, (w / 0x100_0000 % 256) as u8);
+    let e = four(table, (w / 0x1_0000 % 256) as u8);
+    let f = four(table, (w / 256 % 256) as u8);
+    let g = four(table, (w % 256) as u8);
     a + b * 16 + c * 256 + d * 4096 + e * 65536 + f * 1048576 + g * 16777216
+}
+
+// 64 symbols read as subframe i after level 0.
+fn read_word(table: &[u8], i: usize, w: u64) -> SubframeAnswer
+    requires { ⌜ now table ≡ heldTable ⌝ }
+    ensures { λ r. ⌜ r ≡ subframeRead i false (bigBits 64 w) ⌝ }
+{
+    if w / 0x100_0000_0000_0000 != due_octet(i) as u64 {
+        return SubframeAnswer::Refused(7);
+    }
+    // a change at the first symbol of every slot
+    if (w ^ (w / 2)) & 0xAA_AAAA_AAAA_AAAA != 0xAA_AAAA_AAAA_AAAA {
+        return SubframeAnswer::Refused(8);
+    }
+    // an even number of ones leaves the level as it was
+    if w % 2 != 0 {
+        return SubframeAnswer::Refused(9);
+    }
+    SubframeAnswer::Body(read_slots(table, w) * 16)
 }
 
 // Eight octets read as subframe i after a level.
 fn read_subframe(table: &[u8], i: usize, level: u32, part: &[u8]) -> SubframeAnswer
-    requires { ⌜ (now table ≡ backTable) × (level < 2) × (length (now part) ≡ 8) ⌝ }
+    requires { ⌜ (now table ≡ heldTable) × (level < 2) × (length (now part) ≡ 8) ⌝ }
     ensures { λ r. ⌜ r ≡ subframeRead i (odd level) (symbols (now (part .entry))) ⌝ }
 {
-    if part[0] != mark(i, level) {
-        return SubframeAnswer::Refused(7);
-    }
-    let d = read_slots(table, part);
-    if 268435455 < d {
-        return SubframeAnswer::Refused(8);
-    }
-    // an even number of ones leaves the level as it was
-    if part[7] as u32 % 2 != level {
-        return SubframeAnswer::Refused(9);
-    }
-    SubframeAnswer::Body(d * 16)
+    read_word(table, i, turned(level, line::word(part, 0)))
 }
 
 // The number of a subframe's answer; 0 for a body.
@@ -275,18 +337,18 @@ fn number(answer: SubframeAnswer) -> u32
     }
 }
 
-// All subframes of a line, their bodies into a buffer; after a refusal the buffer holds those before it.
+// All subframes of a line, their bodies into a buffer; after a refusal the buffer holds those before it. A subframe that is accepted
+// leaves the level as it was.
 fn decode(table: &[u8], line: &[u8], bodies: &mut [u32]) -> Decoded
-    requires { ⌜ (now table ≡ backTable) × (length (now line) ≡ 3072) × (length (now bodies) ≡ 384) ⌝ }
+    requires { ⌜ (now table ≡ heldTable) × (length (now line) ≡ 3072) × (length (now bodies) ≡ 384) ⌝ }
     ensures { λ r. ⌜ decoded r (now (bodies .exit)) ≡ bodiesOn (now (line .entry)) ⌝ }
 {
-    let mut level = 1 - line[0] as u32 / 128;
+    let level = 1 - line[0] as u32 / 128;
     let mut i: usize = 0;
     while i < 384 {
         let a = i * 8;
         let e = a + 8;
-        let part = &line[a..e];
-        let answer = read_subframe(table, i, level, part);
+        let answer = read_subframe(table, i, level, &line[a..e]);
         let SubframeAnswer::Body(b) = answer else {
             return Decoded::Refused {
                 number: number(answer),
@@ -294,10 +356,18 @@ fn decode(table: &[u8], line: &[u8], bodies: &mut [u32]) -> Decoded
             };
         };
         bodies[i] = b;
-        level = part[7] as u32 % 2;
         i += 1;
     }
     Decoded::Whole
+}
+
+// The same with the table laid out.
+fn decode_line(line: &[u8], bodies: &mut [u32]) -> Decoded
+    requires { ⌜ (length (now line) ≡ 3072) × (length (now bodies) ≡ 384) ⌝ }
+    ensures { λ r. ⌜ decoded r (now (bodies .exit)) ≡ bodiesOn (now (line .entry)) ⌝ }
+{
+    let table = HELD;
+    decode(&table, line, bodies)
 }
 
 // 1 where the CRCC of a channel is right, else 0.
@@ -335,8 +405,7 @@ pub fn read_block(line: &[u8], samples: &mut [i32], side: &mut [u8]) -> ReadAnsw
         };
     }
     let mut bodies = [0u32; 384];
-    let table = BACK;
-    let got = decode(&table, line, &mut bodies);
+    let got = decode_line(line, &mut bodies);
     if let Decoded::Refused { number, place } = got {
         return ReadAnswer::Refused { number, place };
     }

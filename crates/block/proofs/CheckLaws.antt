@@ -4,14 +4,18 @@ use mathlib.Core.Path.{_≡_, refl, sym, ap, _∙_}
 use mathlib.Core.Logic.{⊎-elim}
 use mathlib.Core.Bool.{Bool, true, false, not}
 use mathlib.Core.List.{List}
-use Prim.Native.Nat.{ℕ, _+_, _≤_, _<_}
+use Prim.Native.Nat.{ℕ, zero, suc, _+_, _-_, _≤_, _<_}
 use native.Mathlib.Nat.{zero-add}
+use native.Mathlib.Numerals.{add-one}
+use native.Mathlib.Omega.{arith}
 use borrow.Author.Tests.{eq-eqb, eqb-true, lt-ltb}
 use lib.Dec.{eqb}
 use lib.IntN.{ℤ, pos}
 use lib.ListN.{length, getD, List·getD-eq-default}
 use Rattle.bits.specs.Pick.{pick, first}
-use Rattle.bits.proofs.Tests.{both-true, no-yes, order}
+use Rattle.bits.specs.Row.{digit, count}
+use Rattle.bits.specs.Listed.{listed}
+use Rattle.bits.proofs.Tests.{pick-cases, both-true, no-yes, order}
 use Rattle.bits.proofs.Firsts.{first-cases}
 use Rattle.codes.specs.Crcc.{crccRight}
 use Rattle.subframe.specs.Signed.{inRange}
@@ -22,6 +26,25 @@ use Rattle.block.specs.Check.{statusOf, statusRight, outside, consumer, 
 use Rattle.block.specs.declared.BlockAnswer.{BlockAnswer}
 use Rattle.block.specs.declared.BlockAnswer.the-variants.{Sound, Refused}
 use Rattle.block.proofs.BlockLaws.{InRange, length-samples, getD-samples, length-side}
+
+-- ---- counting, which comes before a search
+
+-- what is left to count, from a place on
+pub count-next : (p : ℕ → Bool) (n i : ℕ) → i < n → count (listed i (n - i) p) ≡ digit (p i) + count (listed (i + 1) (n - (i + 1)) p)
+unfolding listed count
+count-next p n i h = let m : n - i ≡ suc (n - (i + 1)) = omega arith in rw (m, add-one i)
+
+pub count-done : (p : ℕ → Bool) (n i : ℕ) → n ≤ i → count (listed i (n - i) p) ≡ 0
+unfolding listed count
+count-done p n i h = let m : n - i ≡ 0 = omega arith in rw m
+
+-- where the count is 0 a search finds nothing
+pub count-none : {A : Type 0} (p : ℕ → Bool) (hit : ℕ → A) (miss : A) (k n : ℕ) → count (listed k n p) ≡ 0 → first p k n hit miss ≡ miss
+unfolding first listed count
+count-none p hit miss k zero e = refl
+count-none p hit miss k (suc n) e =
+    pick-cases (λ a. a ≡ miss) (p k) (hit k) (first p (suc k) n hit miss) (λ t. absurd (let z : digit (p k) ≡ 1 = rw t in omega arith))
+    (λ f. count-none p hit miss (suc k) n (omega arith))
 
 -- ---- one kind of refusal
 

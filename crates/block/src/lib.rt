@@ -1,8 +1,12 @@
 // A block of 384 samples and its side table: its bodies, and back; and what a writer checks of it.
 ghost use mathlib.Core.Path.{_≡_};
+ghost use mathlib.Core.Bool.{not};
 ghost use Prim.Native.Nat.{_*_, _<_};
 ghost use lib.ListN.{length, getD};
 ghost use Rattle.bits.specs.Pick.{first};
+ghost use Rattle.bits.specs.Row.{digit, count};
+ghost use Rattle.bits.specs.Listed.{listed};
+ghost use Rattle.subframe.specs.Signed.{inRange};
 ghost use Rattle.subframe.specs.Side.{columns, sideLength};
 ghost use Rattle.block.specs.Block.{sideAt, bodyGiven, samplesOf, sideOf, fillNumber, samplesFilled, sideFilled};
 ghost use Rattle.block.specs.Inner.{threeBits, apartTable, threeOctets, channelSide};
@@ -75,11 +79,39 @@ pub fn status_right(side: &[u8], channel: usize) -> bool
     codes::crcc_right(&side[a..e])
 }
 
+// 1 for a sample that is out of range, else 0.
+fn out_of_range(sample: i32) -> u32
+    ensures { λ r. ⌜ r ≡ digit (not (inRange 24 sample)) ⌝ }
+{
+    if subframe::in_range(sample) {
+        return 0;
+    }
+    1
+}
+
+// How many samples are out of range. Counting all needs no branch on a sample, and is quicker than a search that finds none.
+fn outside_count(samples: &[i32]) -> u32
+    requires { ⌜ length (now samples) ≡ 384 ⌝ }
+    ensures { λ r. ⌜ r ≡ count (listed 0 384 (outside (now (samples .entry)))) ⌝ }
+{
+    let mut n: u32 = 0;
+    let mut i: usize = 0;
+    while i < 384 {
+        let x = samples[i];
+        n += out_of_range(x);
+        i += 1;
+    }
+    n
+}
+
 // The first sample that is out of range, or 384.
 fn first_outside(samples: &[i32]) -> usize
     requires { ⌜ length (now samples) ≡ 384 ⌝ }
     ensures { λ r. ⌜ r ≡ first (outside (now (samples .entry))) 0 384 (λ i. i) 384 ⌝ }
 {
+    if outside_count(samples) == 0 {
+        return 384;
+    }
     let mut i: usize = 0;
     while i < 384 {
         let x = samples[i];

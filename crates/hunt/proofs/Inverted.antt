@@ -1,5 +1,5 @@
 -- Inverting every symbol of a line changes no answer of the hunt. Assumes nothing.
-use mathlib.Core.Path.{_≡_, refl, sym, ap, ap₂, _∙_}
+use mathlib.Core.Path.{_≡_, refl, sym, ap, ap₂}
 use mathlib.Core.Bool.{Bool, true, false, not, _&&_}
 use mathlib.Core.Logic.{⊎-elim}
 use mathlib.Core.List.{List, [], _∷_, map}
@@ -16,7 +16,9 @@ use Rattle.bits.proofs.Firsts.{first-map}
 use Rattle.bits.proofs.Inverting.{length-map, not-twice, symbols-inverted}
 use Rattle.bits.proofs.Packing.{highest, length-chain}
 use Rattle.line.specs.Preamble.{preambleY, preambleZ, afterLevel}
-use Rattle.hunt.specs.Hunt.{same, opens, fits, hunted, inverted}
+use Rattle.line.specs.Polarity.{inverted}
+use Rattle.line.proofs.Inverted.{inverted-octets}
+use Rattle.hunt.specs.Hunt.{opens, fits, hunted}
 use Rattle.hunt.specs.declared.Found.{Found}
 use Rattle.hunt.specs.declared.Found.the-variants.{At, Refused}
 use Rattle.hunt.proofs.SameLaws.{same-inverted}
@@ -57,9 +59,9 @@ abbrev answer : (ℕ → Bool) → List ℕ → Found
 answer test line = first test 1 (length line * 8 - 72) At (Refused 17 0)
 
 pub inverted-same : (line : List ℕ) → Below 256 line → hunted (inverted line) ≡ hunted line
-unfolding hunted first inverted
+unfolding hunted first
 inverted-same line h =
-    rw (symbols-inverted line h, length-map (λ (o : ℕ). 255 - o) line)
+    rw (inverted-octets line h, symbols-inverted line h, length-map (λ (o : ℕ). 255 - o) line)
     (ap (pick (ltb 8192 (length line)) (Refused 1 0)) (⊎-elim short long (order (length line * 8) 72)))
   where
     short : length line * 8 ≤ 72 → answer (fits (map not (symbols line))) line ≡ answer (fits (symbols line)) line

@@ -1,5 +1,5 @@
 -- What the hunt's answer means: `answer-right` and `right-answer` together say that it is the one right answer. Assumes neverhing.
-use mathlib.Core.Path.{_≡_, refl, sym, ap, ap₂, _∙_}
+use mathlib.Core.Path.{_≡_, refl, ap, ap₂}
 use mathlib.Core.Logic.{⊎-elim}
 use mathlib.Core.Bool.{Bool, true, false, _&&_}
 use mathlib.Core.List.{List}
@@ -9,8 +9,6 @@ use borrow.Author.Tests.{ltb-true, ltb-false}
 use lib.Dec.{ltb}
 use lib.ListN.{length, getD}
 use Rattle.bits.specs.Pick.{first}
-use Rattle.bits.specs.Row.{Row}
-use Rattle.bits.specs.Window.{part}
 use Rattle.bits.specs.Pack.{symbols}
 use Rattle.bits.proofs.Tests.{pick-cases, both-true, no-yes, order}
 use Rattle.bits.proofs.Firsts.{first-cases}

@@ -3,7 +3,7 @@
 use mathlib.Core.Path.{_≡_}
 use Prim.Native.Nat.{ℕ, _+_, _-_, _*_, _≤_, _<_}
 use mathlib.Core.Bool.{Bool, true, false, not, xor, _&&_}
-use mathlib.Core.List.{List, [], _∷_, map}
+use mathlib.Core.List.{List, [], _∷_}
 use lib.Dec.{ltb}
 use lib.ListN.{getD, length}
 use Rattle.bits.specs.Pick.{pick, first}
@@ -48,10 +48,6 @@ pub data Right (line : List ℕ) : Found → Type 0 where
   smallest : {p : ℕ} → length line ≤ 8192 → Start line p → ((q : ℕ) → Start line q → p ≤ q) → Right line (At p)
   none : length line ≤ 8192 → ((q : ℕ) → Start line q → ⊥) → Right line (Refused 17 0)
   tooLong : 8192 < length line → Right line (Refused 1 0)
-
--- the line with every symbol inverted
-unfoldable pub inverted : List ℕ → List ℕ
-inverted line = map (λ o. 255 - o) line
 
 -- what document 01 says of an answer: number, place, position; a refusal has no position, and 0 stands for it
 abbrev pub foundTold : Found → ℕ × ℕ × ℕ

@@ -1,18 +1,17 @@
--- Biphase, four slots to an octet: how tables of octets write and read it. Assumes nothing.
+-- Biphase, four slots to an octet: eight slots as two octets, and what an octet holds. Assumes nothing.
 use mathlib.Core.Path.{_≡_, ap, _∙_}
-use mathlib.Core.Bool.{Bool, xor, _&&_, and-assoc}
-use mathlib.Core.List.{List, [], _∷_, _++_}
-use Prim.Native.Nat.{ℕ, zero, suc, _+_, _*_, _/_, _%_, _<_}
+use mathlib.Core.Bool.{Bool, xor}
+use mathlib.Core.List.{[], _∷_, _++_}
+use Prim.Native.Nat.{ℕ, _+_, _*_, _/_, _<_}
 use native.Mathlib.Nat.{div-one}
 use native.Mathlib.Omega.{arith}
-use lib.ListN.{length, getD}
+use lib.ListN.{length}
 use Rattle.bits.specs.Row.{Row, digit, odd, bits, bigBits, little, big}
-use Rattle.bits.specs.Window.{part}
-use Rattle.bits.specs.Pack.{chain, pack, octets, symbols}
+use Rattle.bits.specs.Pack.{octets, symbols}
 use Rattle.bits.proofs.Digits.{digit-lt, odd-below}
 use Rattle.bits.proofs.Rows.{length-bits, big-lt, big-append}
-use Rattle.line.specs.Biphase.{slots, left, changing, held}
-use Rattle.line.proofs.BiphaseLaws.{length-slots, left-append}
+use Rattle.line.specs.Biphase.{slots, left, held}
+use Rattle.line.proofs.BiphaseLaws.{length-slots}
 
 -- ---- writing
 
@@ -26,17 +25,7 @@ odd-last r b =
 odd-octet : (a b c d e f g h : Bool) → odd (big (a ∷ b ∷ c ∷ d ∷ e ∷ f ∷ g ∷ h ∷ [])) ≡ h
 odd-octet a b c d e f g h = odd-last (a ∷ b ∷ c ∷ d ∷ e ∷ f ∷ g ∷ []) h
 
--- an octet of four slots, and the slots after it from the level that its lowest bit is
-pub four-slots : (m : ℕ) (l : Bool) (x : ℕ)
-    → octets (suc m) (slots l (bits (suc m * 4) x))
-    ≡ big (slots l (bits 4 x)) ∷ octets m (slots (odd (big (slots l (bits 4 x)))) (bits (m * 4) (x / 16)))
-unfolding pack part slots bits
-four-slots m l x =
-    let n : suc m * 4 ≡ suc (suc (suc (suc (m * 4)))) = omega arith in
-    let q : x / 2 / 2 / 2 / 2 ≡ x / 16 = omega arith in
-    rw (n, q, odd-octet)
-
--- sixteen symbols of eight slots are two octets
+-- of the sixteen symbols of eight slots the first eight are those of four
 module _ (l : Bool) (x : ℕ) where
   abbrev one : ℕ
   one = big (slots l (bits 4 x))
@@ -62,39 +51,12 @@ module _ (l : Bool) (x : ℕ) where
   pub eight-first : big (slots l (bits 8 x)) / 256 ≡ big (slots l (bits 4 x))
   eight-first = omega (arith, both, two-lt)
 
-  second : big (slots l (bits 8 x)) % 256 ≡ two
-  second = omega (arith, both, two-lt)
-
-  last : odd (big (slots l (bits 8 x))) ≡ odd two
-  last = let e : big (slots l (bits 8 x)) % 2 ≡ two % 2 = omega (arith, both) in rw e
-
-  pub eight-slots : (m : ℕ)
-      → octets (suc (suc m)) (slots l (bits (suc (suc m) * 4) x))
-      ≡ big (slots l (bits 8 x)) / 256
-      ∷ big (slots l (bits 8 x)) % 256
-      ∷ octets m (slots (odd (big (slots l (bits 8 x)))) (bits (m * 4) (x / 256)))
-  eight-slots m =
-      let q : x / 16 / 16 ≡ x / 256 = omega arith in
-      rw (eight-first, second, last, four-slots (suc m) l x, four-slots m (odd one) (x / 16), q)
-
 -- ---- reading
 
 -- the level that an octet leaves is its lowest bit
 pub left-octet : (l : Bool) (o : ℕ) → left l (bigBits 8 o) ≡ odd o
 unfolding left bigBits
 left-octet l o = rw (div-one o)
-
--- and the level that octets leave is that of the last
-pub left-octets : (l : Bool) (os : List ℕ) (n : ℕ) → length os ≡ suc n → left l (symbols os) ≡ odd (getD os n 0)
-unfolding chain left
-left-octets l [] n h = absurd (omega arith)
-left-octets l (o ∷ []) zero h = left-append l (bigBits 8 o) [] ∙ left-octet l o
-left-octets l (o ∷ q ∷ os) zero h = absurd (omega arith)
-left-octets l (o ∷ os) (suc n) h = left-append l (bigBits 8 o) (symbols os) ∙ left-octets (left l (bigBits 8 o)) os n (omega arith)
-
-pub changing-octet : (l : Bool) (o : ℕ) (r : Row) → changing l (bigBits 8 o ++ r) ≡ (changing l (bigBits 8 o) && changing (odd o) r)
-unfolding changing bigBits
-changing-octet l o r = rw (div-one o) (simp and-assoc)
 
 -- the four bits that an octet holds, as a number
 abbrev pub nibble : ℕ → ℕ

@@ -1,5 +1,5 @@
 -- `aes3::crcc` meets its contract: the digit of what `status_right` says. Assumes nothing.
-use mathlib.Core.Path.{_≡_, sym, ap, _∙_}
+use mathlib.Core.Path.{sym, ap, _∙_}
 use borrow.Author.Needs.{needs}
 use Rattle.bits.specs.Row.{digit}
 use Rattle.aes3.proofs.crcc.Statement.{statement}

@@ -1,6 +1,6 @@
 -- `aes3::decode` meets its contract. The loop's invariant: the bodies found, in front of what reading the rest gives, are what reading the
--- whole gives. Assumes nothing.
-use mathlib.Core.Path.{_≡_, refl, sym, ap, _∙_}
+-- whole gives; the level before a subframe is that before the block. Assumes nothing.
+use mathlib.Core.Path.{_≡_, sym, ap, _∙_}
 use Prim.Native.Nat.{_*_, _-_, _/_, _≤_, _<_}
 use native.Mathlib.Omega.{arith}
 use borrow.Author.Needs.{needs}
@@ -9,19 +9,16 @@ use Rattle.bits.specs.Row.{odd}
 use Rattle.aes3.specs.Subframe.{subframeNumber}
 use Rattle.aes3.specs.Line.{bodiesFrom, bodiesOn}
 use Rattle.aes3.specs.Inner.{decoded}
-use Rattle.aes3.proofs.Decoding.{level-start, front, front-none, length-lent, read-turn, read-stop, read-done}
+use Rattle.aes3.proofs.Decoding.{level-start, front, front-none, read-turn, read-stop, read-done}
 use Rattle.aes3.proofs.decode.Statement.{statement}
 use Rattle.aes3.proofs.decode.Tie as tie
 
 abbrev Inv-loop : tie.InvT-loop
-Inv-loop table line bodies₀ level₀ i₀ bodies level i =
-    (i ≤ 384)
-    × (length bodies ≡ 384)
-    × (level < 2)
-    × (front (take i bodies) (bodiesFrom (384 - i) i (odd level) (drop (i * 8) line)) ≡ bodiesOn line)
+Inv-loop table line bodies₀ level i₀ bodies i =
+    (i ≤ 384) × (length bodies ≡ 384) × (level < 2) × (front (take i bodies) (bodiesFrom (384 - i) i (odd level) (drop (i * 8) line)) ≡ bodiesOn line)
 
 abbrev μ-loop : tie.MeasureT-loop
-μ-loop table line bodies₀ level₀ i₀ bodies level i = 384 - i
+μ-loop table line bodies₀ level i₀ bodies i = 384 - i
 
 shared-slice-read-level : tie.Need-shared-slice-read-level Inv-loop μ-loop
 shared-slice-read-level c = omega arith
@@ -49,14 +46,14 @@ mul-a c = omega arith
 add-e : tie.Need-add-e Inv-loop μ-loop
 add-e c = omega arith
 
-sub-part : tie.Need-sub-part Inv-loop μ-loop
-sub-part c = omega arith
+sub-read-subframe : tie.Need-sub-read-subframe Inv-loop μ-loop
+sub-read-subframe c = omega arith
 
-part-part-start : tie.Need-part-part-start Inv-loop μ-loop
-part-part-start c = omega arith
+part-read-subframe-start : tie.Need-part-read-subframe-start Inv-loop μ-loop
+part-read-subframe-start c = omega arith
 
-part-part-end : tie.Need-part-part-end Inv-loop μ-loop
-part-part-end c = omega arith
+part-read-subframe-end : tie.Need-part-read-subframe-end Inv-loop μ-loop
+part-read-subframe-end c = omega arith
 
 read-subframe-requires : tie.Need-read-subframe-requires Inv-loop μ-loop
 read-subframe-requires c κs = search needs
@@ -75,8 +72,8 @@ cast-t20 c = omega arith
 
 same-length : tie.Need-same-length Inv-loop μ-loop
 same-length c =
-    let start = c .before .before .before .before .before .before .before .before .before .before .before in
     let loop = c .before .before .before .before .before .before .loop in
+    let start = c .before .before .before .before .before .before .before .before .before .before .before in
     loop .inv .1 ∙ sym (start .pre .2)
 
 returns : tie.Need-returns Inv-loop μ-loop
@@ -87,19 +84,13 @@ returns c =
     let told = c .before .enum-told .given in
     let read = c .before .before .before .read-subframe in
     let n : c .number .result ≡ told .0 .0 = c .number .ensures ∙ ap subframeNumber (told .1) in
-    rw n (read-stop (start .args .line .now) (loop .i) (loop .level) (omega arith) (omega arith) (loop .bodies) _ _ (sym (read .ensures) ∙ told .1) (loop .inv .3))
+    rw n (read-stop (start .args .line .now) (loop .i) (1 - getD (start .args .line .now) 0 0 / 128) (omega arith) (omega arith) (loop .bodies) _ _ (sym (read .ensures) ∙ told .1) (loop .inv .3))
 
 mul-bodies : tie.Need-mul-bodies Inv-loop μ-loop
 mul-bodies c = omega arith
 
 slice-write-bodies : tie.Need-slice-write-bodies Inv-loop μ-loop
 slice-write-bodies c = omega arith
-
-shared-slice-read-level-2 : tie.Need-shared-slice-read-level-2 Inv-loop μ-loop
-shared-slice-read-level-2 c = search needs
-
-cast-level-2 : tie.Need-cast-level-2 Inv-loop μ-loop
-cast-level-2 c = omega (arith, c .shared-slice-known4 .given 7)
 
 add-i : tie.Need-add-i Inv-loop μ-loop
 add-i c = omega arith
@@ -109,14 +100,14 @@ loop-less c = omega arith
 
 loop-again : tie.Need-loop-again Inv-loop μ-loop
 loop-again c =
-    let start = c .before .before .before .before .before .before .before .before .before .before .before .before in
-    let loop = c .before .before .before .before .before .before .before .loop in
-    let told = c .before .before .answer .given in
-    let read = c .before .before .before .before .read-subframe in (
+    let start = c .before .before .before .before .before .before .before .before .before .before .before in
+    let loop = c .before .before .before .before .before .before .loop in
+    let told = c .before .answer .given in
+    let read = c .before .before .before .read-subframe in (
       omega arith,
       simp length-set (loop .inv .1),
-      omega arith,
-      read-turn (start .args .line .now) (loop .i) (loop .level) (omega arith) (omega arith) (loop .bodies) _ _ (omega arith) (sym (read .ensures) ∙ told .1) (loop .inv .3),
+      loop .inv .2,
+      read-turn (start .args .line .now) (loop .i) (1 - getD (start .args .line .now) 0 0 / 128) (omega arith) (omega arith) (loop .bodies) _ _ (omega arith) (sym (read .ensures) ∙ told .1) (loop .inv .3),
     )
 
 same-length-2 : tie.Need-same-length-2 Inv-loop μ-loop
@@ -127,7 +118,7 @@ unfolding decoded
 returns-2 c =
     let start = c .before .before .before .before .before .before in
     let loop = c .before .loop in
-    read-done (start .args .line .now) (loop .bodies) (loop .i) (loop .level) _ (omega arith) (loop .inv .1) (loop .inv .3)
+    read-done (start .args .line .now) (loop .bodies) (loop .i) (1 - getD (start .args .line .now) 0 0 / 128) _ (omega arith) (loop .inv .1) (loop .inv .3)
 
 pub decode-spec : {M : Type 1} → statement M
 decode-spec =
@@ -141,9 +132,9 @@ decode-spec =
     loop-holds
     mul-a
     add-e
-    sub-part
-    part-part-start
-    part-part-end
+    sub-read-subframe
+    part-read-subframe-start
+    part-read-subframe-end
     read-subframe-requires
     enum-known-answer
     enum-told
@@ -153,8 +144,6 @@ decode-spec =
     returns
     mul-bodies
     slice-write-bodies
-    shared-slice-read-level-2
-    cast-level-2
     add-i
     loop-less
     loop-again

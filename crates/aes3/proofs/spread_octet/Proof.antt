@@ -1,8 +1,8 @@
 -- `aes3::spread_octet` meets its contract: the table's rule for both halves. Assumes nothing.
 use mathlib.Core.Path.{_≡_}
-use Prim.Native.Nat.{_+_, _*_, _/_, _%_, _<_}
+use Prim.Native.Nat.{_/_, _%_}
 use native.Mathlib.Omega.{arith}
-use lib.ListN.{length, getD}
+use lib.ListN.{length}
 use Rattle.aes3.proofs.Flags.{length-spreads, four-lt, spread-at}
 use borrow.Author.Needs.{needs}
 use Rattle.aes3.proofs.spread_octet.Statement.{statement}

@@ -3,11 +3,9 @@ use mathlib.Core.Path.{_≡_, refl, sym, _∙_}
 use Prim.Native.Nat.{_<_}
 use native.Mathlib.Omega.{arith}
 use borrow.Author.Needs.{needs}
-use borrow.Author.Tests.{eq-eqb, ne-eqb, lt-ltb, le-ltb}
+use borrow.Author.Tests.{eq-eqb, ne-eqb, le-ltb}
 use lib.ListN.{length}
 use Rattle.aes3.specs.Block.{writeAnswer, lineWritten}
-use Rattle.aes3.proofs.BiphaseTables.{eights, eights-right}
-use Rattle.aes3.proofs.Flags.{spreads, spreads-right}
 use Rattle.aes3.proofs.BlockWriting.{unsound, written}
 use Rattle.aes3.proofs.write_block.Statement.{statement}
 use Rattle.aes3.proofs.write_block.Tie as tie
@@ -59,30 +57,23 @@ returns-5 c =
 enum-told : tie.Need-enum-told
 enum-told c = search needs
 
-slice-aggregate-write-line : tie.Need-slice-aggregate-write-line
-slice-aggregate-write-line c = search needs
-
-slice-aggregate-write-line-2 : tie.Need-slice-aggregate-write-line-2
-slice-aggregate-write-line-2 c = search needs
-
-write-line-requires : tie.Need-write-line-requires
-unfolding eights spreads
-write-line-requires c κs =
-    let sound = sym (c .before .before .before .before .before .check-block .ensures) ∙ c .before .before .before .enum-told .given .1 in
-    (eights-right, spreads-right, sound, omega arith, omega arith, omega arith, omega arith)
+write-sound-requires : tie.Need-write-sound-requires
+write-sound-requires c κs =
+    let sound = sym (c .before .before .before .check-block .ensures) ∙ c .before .enum-told .given .1 in
+    (sound, omega arith, omega arith, omega arith, omega arith)
 
 same-length : tie.Need-same-length
 same-length c = search needs
 
 returns-6 : tie.Need-returns-6
 returns-6 c =
-    let a = c .before .before .before .before .before .before .before .before .before .before .before .before .before .before .before .args in
+    let a = c .before .before .before .before .before .before .before .before .before .before .before .before .before .args in
     let ns : length (a .samples .now) ≡ 384 = omega arith in
     let nt : length (a .side .now) ≡ 144 = omega arith in
     let nl : length (a .line .now) ≡ 3072 = omega arith in
     let h : a .level < 2 = omega arith in
-    let wrote = c .before .before .write-line in
-    written (a .samples .now) (a .side .now) (a .level) (a .line .now) ns nt nl h (wrote .last .1 .1 .1 .1 .1 .0) (sym (c .before .before .before .before .before .before .before .before .check-block .ensures) ∙ c .before .before .before .before .before .before .enum-told .given .1) (wrote .ensures)
+    let wrote = c .before .before .write-sound in
+    written (a .samples .now) (a .side .now) (a .level) (a .line .now) ns nt nl h (wrote .last .1 .1 .1 .0) (sym (c .before .before .before .before .before .before .check-block .ensures) ∙ c .before .before .before .before .enum-told .given .1) (wrote .ensures)
 
 pub write-block-spec : {M : Type 1} → statement M
 write-block-spec =
@@ -96,8 +87,6 @@ write-block-spec =
     enum-known-found
     returns-5
     enum-told
-    slice-aggregate-write-line
-    slice-aggregate-write-line-2
-    write-line-requires
+    write-sound-requires
     same-length
     returns-6)

@@ -1,88 +1,34 @@
 -- `aes3::write_line` meets its contract. The loop's invariant: the octets written, followed by those of the bodies that are left, are the
--- whole line; V, U and C of the next subframes stand ready, up to the next sixteen. Assumes nothing.
-use mathlib.Core.Path.{_≡_, refl, sym, ap, ap₂, _∙_}
-use mathlib.Core.Bool.{true}
-use mathlib.Core.List.{List, _++_}
-use Prim.Native.Nat.{ℕ, _+_, _-_, _*_, _/_, _%_, _≤_, _<_}
+-- whole line. Assumes nothing.
+use mathlib.Core.Path.{_≡_, refl, _∙_}
+use mathlib.Core.List.{_++_}
+use Prim.Native.Nat.{ℕ, _+_, _-_, _*_, _≤_, _<_}
 use native.Mathlib.Omega.{arith}
-use borrow.Author.Needs.{needs, sfits-of}
+use borrow.Author.Needs.{needs}
 use borrow.Rule.Slice.PartMut.{same-len-mid}
-use lib.IntN.{ℤ, pos}
-use lib.ListN.{length, take, drop, getD}
-use mir.Syntax.{w32}
-use mir.Facts.{toZ-ofZ}
-use Rattle.bits.specs.Row.{odd, digit}
-use Rattle.bits.proofs.Digits.{digit-same}
-use Rattle.subframe.specs.Signed.{inRange, codeOf}
-use Rattle.subframe.proofs.SignedLaws.{code-lt}
+use lib.ListN.{length, take, drop, length-take, length-drop}
+use Rattle.bits.specs.Row.{odd}
+use Rattle.bits.proofs.Filling.{filled-part}
 use Rattle.block.specs.Block.{bodiesOf}
-use Rattle.block.proofs.BlockLaws.{length-bodies, getD-bodies}
-use Rattle.block.proofs.CheckLaws.{sound-passes}
-use Rattle.line.specs.Biphase.{left}
-use Rattle.aes3.specs.Subframe.{subframe}
+use Rattle.block.proofs.BlockLaws.{length-bodies}
 use Rattle.aes3.specs.Line.{lineFrom}
 use Rattle.aes3.specs.Block.{blockLine}
-use Rattle.aes3.specs.Inner.{bodyWith, flags, flagsFrom}
-use Rattle.aes3.proofs.LineLaws.{level-returns}
-use Rattle.aes3.proofs.LineWriting.{turn, all-written}
-use Rattle.aes3.proofs.Bodies.{proper-with}
-use Rattle.aes3.proofs.Flags.{flags-first, flags-rest, flags-lt, body-with}
+use Rattle.aes3.proofs.LineWriting.{all-written}
 use Rattle.aes3.proofs.write_line.Statement.{statement}
 use Rattle.aes3.proofs.write_line.Tie as tie
 
 abbrev Inv-loop : tie.InvT-loop
-Inv-loop table spreads samples side level line₀ left₀ i₀ line left i =
-    (i ≤ 384)
+Inv-loop table spreads samples side level line₀ j₀ line j =
+    (j ≤ 24)
     × (length line ≡ 3072)
-    × (0 < i % 16 → left ≡ flagsFrom side i (16 - i % 16))
-    × (take (i * 8) line ++ lineFrom i (odd level) (drop i (bodiesOf samples side)) ≡ blockLine samples side level)
+    × (take (j * 128) line ++ lineFrom (16 * j) (odd level) (drop (16 * j) (bodiesOf samples side)) ≡ blockLine samples side level)
 
 abbrev μ-loop : tie.MeasureT-loop
-μ-loop table spreads samples side level line₀ left₀ i₀ line left i = 384 - i
-
-module _ (c : tie.After-code Inv-loop μ-loop) where
-  abbrev at : tie.At-loop Inv-loop μ-loop
-  at = c .before .before .before .before
-
-  abbrev start : tie.Start Inv-loop μ-loop
-  start = at .before .before .before .before .before
-
-  abbrev i : ℕ
-  i = at .loop .i
-
-  abbrev samples : List ℤ
-  samples = start .args .samples .now
-
-  abbrev side : List ℕ
-  side = start .args .side .now
-
-  abbrev all : ℕ
-  all = c .before .before .flags-left .result
-
-  abbrev word : ℕ
-  word = c .code .result + all % 8 * 16777216
-
-  range : inRange 24 (getD samples i (pos 0)) ≡ true
-  range = sound-passes samples side (start .pre .2) .ranges i
-
-  coded : c .code .result ≡ codeOf 24 (getD samples i (pos 0))
-  coded = rw (toZ-ofZ {w = w32} (sfits-of (c .before .x .given))) at (c .code .ensures)
-
-  code-small : c .code .result < 16777216
-  code-small = rw coded (code-lt 24 (omega arith) (getD samples i (pos 0)) range)
-
-  word-small : word < 134217728
-  word-small = omega (arith, code-small)
-
-  carried : i < 384 → bodyWith word ≡ getD (bodiesOf samples side) i 0
-  carried h =
-      body-with side i samples word range
-      (ap₂ (λ (a b : ℕ). a + b * 16777216) coded (flags-first side i all (c .before .before .flags-left .ensures)))
-      ∙ sym (getD-bodies samples side i h)
+μ-loop table spreads samples side level line₀ j₀ line j = 24 - j
 
 loop-holds : tie.Need-loop-holds Inv-loop μ-loop
 unfolding blockLine
-loop-holds c = (omega arith, omega arith, λ h. absurd (omega arith), refl)
+loop-holds c = (omega arith, omega arith, refl)
 
 mul-a : tie.Need-mul-a Inv-loop μ-loop
 mul-a c = omega arith
@@ -90,69 +36,45 @@ mul-a c = omega arith
 add-e : tie.Need-add-e Inv-loop μ-loop
 add-e c = omega arith
 
-flags-left-requires : tie.Need-flags-left-requires Inv-loop μ-loop
-flags-left-requires c κs =
-    let start = c .before .before .before .before .before .before in
-    (start .pre .1, start .pre .4, c .loop-test .taken, c .before .loop .inv .2)
+sub-write-sixteen : tie.Need-sub-write-sixteen Inv-loop μ-loop
+sub-write-sixteen c = omega arith
 
-mul-x : tie.Need-mul-x Inv-loop μ-loop
-mul-x c = omega arith
+part-write-sixteen-start : tie.Need-part-write-sixteen-start Inv-loop μ-loop
+part-write-sixteen-start c = omega arith
 
-shared-slice-copy-out-x : tie.Need-shared-slice-copy-out-x Inv-loop μ-loop
-shared-slice-copy-out-x c = search needs
+part-write-sixteen-end : tie.Need-part-write-sixteen-end Inv-loop μ-loop
+part-write-sixteen-end c = omega arith
 
-code-requires : tie.Need-code-requires Inv-loop μ-loop
-code-requires c κs =
-    let at = c .before .before .before in
-    let start = at .before .before .before .before .before in
-    rw (toZ-ofZ {w = w32} (sfits-of (c .x .given))) (sound-passes (start .args .samples .now) (start .args .side .now) (start .pre .2) .ranges (at .loop .i))
+write-sixteen-requires : tie.Need-write-sixteen-requires Inv-loop μ-loop
+write-sixteen-requires c κs =
+    let start = c .before .before .before .before .before .before .before in
+    (start .pre .0, start .pre .1, start .pre .2, start .pre .3, start .pre .4, omega arith, start .pre .5, search needs)
 
-cast-word : tie.Need-cast-word Inv-loop μ-loop
-cast-word c = omega arith
-
-mul-word : tie.Need-mul-word Inv-loop μ-loop
-mul-word c = omega arith
-
-add-word : tie.Need-add-word Inv-loop μ-loop
-add-word c = omega (arith, code-small c)
-
-sub-write-subframe : tie.Need-sub-write-subframe Inv-loop μ-loop
-sub-write-subframe c = omega arith
-
-part-write-subframe-start : tie.Need-part-write-subframe-start Inv-loop μ-loop
-part-write-subframe-start c = omega arith
-
-part-write-subframe-end : tie.Need-part-write-subframe-end Inv-loop μ-loop
-part-write-subframe-end c = omega arith
-
-write-subframe-requires : tie.Need-write-subframe-requires Inv-loop μ-loop
-write-subframe-requires c κs =
-    (start (c .before) .pre .0, start (c .before) .pre .5, word-small (c .before), search needs)
-
-add-i : tie.Need-add-i Inv-loop μ-loop
-add-i c = omega arith
+add-j : tie.Need-add-j Inv-loop μ-loop
+add-j c = omega arith
 
 loop-less : tie.Need-loop-less Inv-loop μ-loop
 loop-less c = omega arith
 
 loop-again : tie.Need-loop-again Inv-loop μ-loop
 loop-again c =
-    let k = c .before .before .before .before in
-    let p = start k in
-    let loop = at k .loop in
-    let wrote = c .before .before .write-subframe in
-    let o = wrote .last .1 .1 .1 .1 .0 in
-    let bodies = bodiesOf (samples k) (side k) in
-    let n : length bodies ≡ 384 = length-bodies (samples k) (side k) in
-    let t : i k < 384 = k .before .before .before .loop-test .taken in
-    let h : i k < length bodies = omega arith in
-    let level = p .args .level in
-    let g : level ≡ digit (left (odd level) (subframe (i k) (odd level) (bodyWith (word k)))) =
-    sym (ap digit (level-returns (i k) (odd level) (bodyWith (word k)) (proper-with (word k) (word-small k))) ∙ digit-same level (p .pre .5)) in (
+    let at = c .before .before .before .before .before in
+    let loop = at .loop in
+    let start = at .before .before .before .before .before in
+    let a = start .args in
+    let wrote = c .before .before .write-sixteen in
+    let o = wrote .last .1 .1 .1 .1 .1 .1 .0 in
+    let kept = wrote .kept .1 .1 .1 .1 .1 .1 .0 in
+    let bodies = bodiesOf (a .samples .now) (a .side .now) in
+    let rest = lineFrom (16 * loop .j + 16) (odd (a .level)) (drop (16 * loop .j + 16) bodies) in
+    let t : loop .j < 24 = c .before .before .before .before .loop-test .taken in
+    let k : loop .j * 128 + 128 - loop .j * 128 ≡ 128 = omega arith in
+    let z : length o ≡ 128 = kept ∙ rw (k, length-take, length-drop) (omega arith) in
+    let e : 16 * (loop .j + 1) ≡ 16 * loop .j + 16 = omega arith in
+    let s : (loop .j + 1) * 128 ≡ loop .j * 128 + 128 = omega arith in (
       omega arith,
-      same-len-mid {X = ℕ} (loop .i * 8) (loop .i * 8 + 8 - loop .i * 8) (loop .line) o (wrote .kept .1 .1 .1 .1 .0) ∙ loop .inv .1,
-      flags-rest (side k) (i k) (all k) (k .before .before .flags-left .ensures),
-      turn (loop .line) bodies o (loop .i) level (bodyWith (word k)) level h (carried k t) (wrote .ensures) g _ _ (omega arith) (loop .inv .3),
+      same-len-mid {X = ℕ} (loop .j * 128) (loop .j * 128 + 128 - loop .j * 128) (loop .line) o kept ∙ loop .inv .1,
+      rw (e, s) (filled-part (loop .line) o _ rest _ (loop .j * 128) 128 (omega arith) z (rw (← wrote .ensures) at (loop .inv .2))),
     )
 
 same-length : tie.Need-same-length Inv-loop μ-loop
@@ -161,10 +83,10 @@ same-length c = omega arith
 returns : tie.Need-returns Inv-loop μ-loop
 returns c =
     let loop = c .before .loop in
-    let p = c .before .before .before .before .before .before in
-    let a = p .args in
+    let start = c .before .before .before .before .before .before in
+    let a = start .args in
     let n : length (bodiesOf (a .samples .now) (a .side .now)) ≡ 384 = length-bodies (a .samples .now) (a .side .now) in
-    all-written (loop .line) (bodiesOf (a .samples .now) (a .side .now)) _ (loop .i) (a .level) (omega arith) (omega arith) (loop .inv .3)
+    all-written (loop .line) (bodiesOf (a .samples .now) (a .side .now)) _ (16 * loop .j) (loop .j * 128) (odd (a .level)) (omega arith) (omega arith) (loop .inv .2)
 
 pub write-line-spec : {M : Type 1} → statement M
 write-line-spec =
@@ -175,18 +97,11 @@ write-line-spec =
     loop-holds
     mul-a
     add-e
-    flags-left-requires
-    mul-x
-    shared-slice-copy-out-x
-    code-requires
-    cast-word
-    mul-word
-    add-word
-    sub-write-subframe
-    part-write-subframe-start
-    part-write-subframe-end
-    write-subframe-requires
-    add-i
+    sub-write-sixteen
+    part-write-sixteen-start
+    part-write-sixteen-end
+    write-sixteen-requires
+    add-j
     loop-less
     loop-again
     same-length

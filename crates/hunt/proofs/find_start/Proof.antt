@@ -1,7 +1,7 @@
 -- `hunt::find_start` meets its contract. Outer invariant: the answer is that of the candidates from p on. Inner: besides, whether p
 -- fits is what its symbols from k on say. A `continue` of the outer loop steps p inside the inner one, so the inner invariant says that p
 -- is still the outer p. Assumes nothing.
-use mathlib.Core.Path.{_≡_, sym, ap, _∙_}
+use mathlib.Core.Path.{_≡_, sym, _∙_}
 use mathlib.Core.Bool.{false}
 use mathlib.Core.List.{List}
 use Prim.Native.Nat.{ℕ, _+_, _-_, _*_, _≤_, _<_}
