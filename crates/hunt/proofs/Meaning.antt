@@ -13,7 +13,7 @@ use Rattle.bits.specs.Pack.{symbols}
 use Rattle.bits.proofs.Tests.{pick-cases, both-true, no-yes, order}
 use Rattle.bits.proofs.Firsts.{first-cases}
 use Rattle.line.specs.Preamble.{preambleY, preambleZ, afterLevel}
-use Rattle.hunt.specs.Hunt.{same, opens, fits, hunted, Start, Right}
+use Rattle.hunt.specs.Hunt.{opens, fits, hunted, Start, Right}
 use Rattle.hunt.specs.Hunt.Right.{smallest, none, tooLong}
 use Rattle.hunt.specs.declared.Found.{Found}
 use Rattle.hunt.specs.declared.Found.the-variants.{At, Refused}

@@ -1,13 +1,12 @@
 -- What the reader's acceptance says of its arguments. Assumes nothing.
 use mathlib.Core.Path.{_≡_}
-use mathlib.Core.Bool.{Bool, true, _&&_}
+use mathlib.Core.Bool.{_&&_}
 use mathlib.Core.List.{List}
 use Prim.Native.Nat.{ℕ, _+_, _*_, _-_, _/_}
 use native.Mathlib.Omega.{arith}
 use borrow.Author.Tests.{eqb-true}
 use lib.Dec.{eqb}
 use lib.ListN.{length}
-use Rattle.bits.specs.Pick.{pick}
 use Rattle.bits.specs.Window.{window}
 use Rattle.bits.specs.Pack.{symbols}
 use Rattle.bits.proofs.Tests.{pick-cases, both-true}

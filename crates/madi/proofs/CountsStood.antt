@@ -1,7 +1,7 @@
 -- The counts and words that the reader gives are those of the units that stood on the line: none is invented. Assumes nothing.
-use mathlib.Core.Path.{_≡_, refl, sym, ap, ap₂, subst, _∙_}
-use mathlib.Core.List.{List, [], _∷_, _++_, map}
-use Prim.Native.Nat.{ℕ, suc, _+_, _*_}
+use mathlib.Core.Path.{_≡_, refl, sym, ap, subst, _∙_}
+use mathlib.Core.List.{List, map}
+use Prim.Native.Nat.{ℕ}
 use native.Mathlib.Omega.{arith}
 use lib.ListN.{length, length-append}
 use Rattle.bits.specs.Row.{Row, count, bigBits}
@@ -14,8 +14,8 @@ use Rattle.madi_code.proofs.ChannelLaws.{length-channel}
 use Rattle.madi_read.specs.Reader.{carried, taken, cleared, readFrame}
 use Rattle.madi_read.proofs.Carrying.{length-carried}
 use Rattle.madi.specs.Units.{Units, end, sync-next, channel-next}
-use Rattle.madi.proofs.Accepting.{Accepted, accepted}
-use Rattle.madi.proofs.Standing.{Stands, stands}
+use Rattle.madi.proofs.Accepting.{accepted}
+use Rattle.madi.proofs.Standing.{stands}
 
 units-length : {r : Row} {ws : List ℕ} {s : ℕ} → Units r ws s → length r ≡ boundary (length ws) s
 units-length end = refl

@@ -1,16 +1,16 @@
 -- A row on a line and back: what octets of levels carry, and octets of what a line carries. Assumes nothing.
-use mathlib.Core.Path.{_≡_, refl, sym, ap, ap₂, _∙_}
+use mathlib.Core.Path.{_≡_, sym, ap, _∙_}
 use mathlib.Core.Logic.{⊎-elim}
-use mathlib.Core.Bool.{Bool, false}
+use mathlib.Core.Bool.{false}
 use mathlib.Core.List.{List}
-use Prim.Native.Nat.{ℕ, suc, _+_, _*_, _-_, _/_, _^_, _≤_, _<_}
+use Prim.Native.Nat.{ℕ, suc, _+_, _*_, _-_, _^_, _≤_, _<_}
 use native.Mathlib.Nat.{zero-add, zero-div}
 use native.Mathlib.Omega.{arith}
 use lib.ListN.{length, getD, List·getD-eq-default}
 use lib.Seq.{ext-getD}
 use Rattle.bits.specs.Row.{Row, odd, big, bigBits, Below}
 use Rattle.bits.specs.Window.{part, window}
-use Rattle.bits.specs.Pack.{octets, symbols, pack}
+use Rattle.bits.specs.Pack.{octets, symbols}
 use Rattle.bits.proofs.Tests.{order}
 use Rattle.bits.proofs.Rows.{bigBits-big, getD-bigBits}
 use Rattle.bits.proofs.Windows.{length-part, getD-part, part-same, part-all, window-same, window-past}

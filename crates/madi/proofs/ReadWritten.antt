@@ -1,39 +1,33 @@
 -- What the writer accepts the reader accepts, with the same words, active count and sync count; one proof for both channel counts.
 -- Assumes nothing.
 use mathlib.Core.Path.{_≡_, refl, sym, ap, ap₂, _∙_}
-use mathlib.Core.Bool.{Bool, true, false}
+use mathlib.Core.Bool.{false}
 use mathlib.Core.List.{List, [], _∷_, _++_}
-use Prim.Native.Nat.{ℕ, zero, suc, _+_, _*_, _-_, _/_, _%_, _^_, _≤_, _<_, min}
-use native.Mathlib.Nat.{add-zero, zero-add}
+use Prim.Native.Nat.{ℕ, zero, suc, _+_, _*_, _-_, _^_, _≤_, _<_, min}
+use native.Mathlib.Nat.{zero-add}
 use native.Mathlib.Numerals.{add-one}
 use native.Mathlib.Omega.{arith}
-use borrow.Author.Tests.{lt-ltb, le-ltb, le-leb, lt-leb, eq-eqb, ne-eqb}
-use lib.Dec.{eqb, ltb, leb}
+use borrow.Author.Tests.{lt-ltb, le-ltb, le-leb, eq-eqb, ne-eqb}
 use lib.ListN.{length, getD, take}
-use lib.Seq.{take-suc, take-length, take-at}
-use Rattle.bits.specs.Pick.{pick}
+use lib.Seq.{take-suc, take-length}
 use Rattle.bits.specs.Row.{Row, odd, big, Below}
 use Rattle.bits.specs.Window.{part, window}
 use Rattle.bits.specs.Pack.{octets, symbols}
-use Rattle.bits.proofs.Windows.{part-all, part-split, part-same, getD-part, window-same, length-part}
+use Rattle.bits.proofs.Windows.{getD-part, window-same}
 use Rattle.bits.proofs.Packing.{length-pack}
 use Rattle.line.specs.Nrzi.{levels}
 use Rattle.madi_code.specs.Groups.{sync}
-use Rattle.madi_code.specs.Channels.{channelRow, channelOf}
+use Rattle.madi_code.specs.Channels.{channelRow}
 use Rattle.madi_code.specs.Frame.{boundary}
-use Rattle.madi_code.specs.declared.Channel.{Channel}
-use Rattle.madi_code.specs.declared.Channel.the-variants.{Word}
 use Rattle.madi_code.proofs.ChannelLaws.{channel-back, channel-no-sync}
-use Rattle.madi_read.specs.Reader.{carried, isSync, slotAt, slotOf, pieceAt, Reading, taken, cleared, next, readFrom, readRow, readFrame, answerOf, wordsOf}
-use Rattle.madi_read.specs.declared.Piece.{Piece}
+use Rattle.madi_read.specs.Reader.{carried, pieceAt, taken, readFrom, readRow, readFrame}
 use Rattle.madi_read.specs.declared.Piece.the-variants.{End, Sync, Slot}
 use Rattle.madi_read.proofs.Walking.{read-step}
-use Rattle.madi_write.specs.Writer.{channelWords, frameRow, needed, frameOctets, writeAnswer, written, writtenBy}
+use Rattle.madi_write.specs.Writer.{frameRow, needed, frameOctets, writeAnswer}
 use Rattle.madi_write.specs.Inner.{sentWord, syncsNumber}
-use Rattle.madi_write.specs.declared.WriteAnswer.{WriteAnswer}
 use Rattle.madi_write.specs.declared.WriteAnswer.the-variants.{Written}
 use Rattle.madi_write.proofs.Frames.{word-at, length-frame, frame-channel, frame-syncs}
-use Rattle.madi_write.proofs.Checks.{Ranged, Clean, Writable, writable}
+use Rattle.madi_write.proofs.Checks.{Clean, writable}
 use Rattle.madi.specs.Units.{padded}
 use Rattle.madi.proofs.Lines.{line-carries, line-spare}
 use Rattle.madi.proofs.Sending.{sent-small, sent-bit, slot-right, padded-at, length-padded}

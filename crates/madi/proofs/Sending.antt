@@ -1,14 +1,13 @@
 -- The words that the writer sends are words that the reader takes, each in its place. Assumes nothing.
-use mathlib.Core.Path.{_≡_, refl, sym, ap, ap₂, _∙_}
-use mathlib.Core.Logic.{⊎-elim}
+use mathlib.Core.Path.{_≡_, refl, sym, ap, _∙_}
 use mathlib.Core.Bool.{Bool, true, false}
 use mathlib.Core.List.{List, _++_}
-use Prim.Native.Nat.{ℕ, zero, suc, _+_, _*_, _-_, _/_, _%_, _^_, _≤_, _<_, min}
-use native.Mathlib.Nat.{zero-div, div-one}
+use Prim.Native.Nat.{ℕ, _+_, _-_, _/_, _^_, _≤_, _<_, min}
+use native.Mathlib.Nat.{div-one}
 use native.Mathlib.Omega.{arith}
-use native.Mathlib.Decide.{decLt, ℕ-discrete}
+use native.Mathlib.Decide.{decLt}
 use borrow.Author.Tests.{lt-ltb, le-ltb, eq-eqb, ne-eqb}
-use lib.Dec.{eqb, ltb}
+use lib.Dec.{eqb}
 use lib.ListN.{length, getD, replicate, length-append, length-replicate, getD-replicate, List·getD-append}
 use lib.Seq.{getD-append-add}
 use Rattle.bits.specs.Pick.{pick}
@@ -16,7 +15,6 @@ use Rattle.bits.specs.Row.{bit, bits, even, count, Below}
 use Rattle.subframe.specs.Body.{slots}
 use Rattle.madi_code.specs.Frame.{evenBody}
 use Rattle.madi_read.specs.Reader.{firstRight, activeRight, slotOf, cleared}
-use Rattle.madi_read.specs.declared.Piece.{Piece}
 use Rattle.madi_read.specs.declared.Piece.the-variants.{Slot}
 use Rattle.madi_write.specs.Inner.{sentWord}
 use Rattle.madi_write.proofs.Checks.{Clean}

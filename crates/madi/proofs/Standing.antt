@@ -1,26 +1,23 @@
 -- What an accepted frame is made of: the reader's counts and words are those of the units that stand on the line. Assumes nothing.
-use mathlib.Core.Path.{_≡_, refl, sym, ap, ap₂, subst, _∙_}
-use mathlib.Core.Bool.{Bool, true, false}
+use mathlib.Core.Path.{_≡_, sym, ap, ap₂, subst, _∙_}
+use mathlib.Core.Bool.{true}
 use mathlib.Core.List.{List, [], _∷_, _++_, map, append-assoc, append-nil}
-use Prim.Native.Nat.{ℕ, zero, suc, _+_, _*_, _-_, _/_, _%_, _^_, _≤_, _<_}
-use native.Mathlib.Nat.{add-zero}
-use native.Mathlib.Numerals.{add-one}
+use Prim.Native.Nat.{ℕ, zero, suc, _+_, _-_, _/_, _^_, _≤_, _<_}
 use native.Mathlib.Omega.{arith}
-use lib.ListN.{length, drop, take, drop-of-length-le, take-append-drop, length-drop}
+use lib.ListN.{length, drop, drop-of-length-le, take-append-drop}
 use lib.Seq.{drop-drop}
-use Rattle.bits.specs.Row.{Row, bit, big, bigBits, count}
+use Rattle.bits.specs.Row.{Row, bit, bigBits, count}
 use Rattle.bits.specs.Window.{part, window}
 use Rattle.bits.specs.Cross.{across}
 use Rattle.bits.proofs.Digits.{digit-odd}
 use Rattle.bits.proofs.Rows.{bigBits-big}
 use Rattle.bits.proofs.Windows.{length-part, part-in}
 use Rattle.madi_code.specs.Groups.{sync}
-use Rattle.madi_code.specs.Channels.{channelRow, channelOf}
+use Rattle.madi_code.specs.Channels.{channelOf}
 use Rattle.madi_code.specs.Frame.{evenBody, boundary}
-use Rattle.madi_code.specs.declared.Channel.{Channel}
 use Rattle.madi_code.specs.declared.Channel.the-variants.{Word}
 use Rattle.madi_code.proofs.ChannelLaws.{channel-only}
-use Rattle.madi_read.specs.Reader.{firstRight, activeRight, pieceAt, Reading, taken, refused, cleared, next, readFrom, readRow}
+use Rattle.madi_read.specs.Reader.{firstRight, activeRight, pieceAt, taken, refused, cleared, next, readFrom, readRow}
 use Rattle.madi_read.specs.declared.Piece.{Piece}
 use Rattle.madi_read.specs.declared.Piece.the-variants.{End, Sync, Slot, Bad}
 use Rattle.madi_read.proofs.Walking.{Room, room}

@@ -2,7 +2,7 @@
 use mathlib.Core.Path.{_≡_, refl, sym, ap, ap₂, subst, _∙_}
 use mathlib.Core.Bool.{Bool, true, false}
 use mathlib.Core.List.{List, [], _∷_, _++_, map}
-use Prim.Native.Nat.{ℕ, zero, suc, _+_, _*_, _-_, _/_, _%_, _^_, _≤_, _<_}
+use Prim.Native.Nat.{ℕ, zero, suc, _+_, _-_, _/_, _%_, _<_}
 use native.Mathlib.Nat.{sub-zero, div-one}
 use native.Mathlib.Omega.{arith}
 use borrow.Author.Tests.{eqb-true, ne-eqb}
@@ -13,7 +13,7 @@ use Rattle.bits.specs.Row.{odd, bit, digit, count}
 use Rattle.bits.specs.Cross.{across}
 use Rattle.bits.proofs.Digits.{digit-odd}
 use Rattle.madi_code.specs.Frame.{evenBody}
-use Rattle.madi_read.specs.Reader.{firstRight, activeRight, cleared}
+use Rattle.madi_read.specs.Reader.{cleared}
 use Rattle.madi_write.specs.Writer.{marked}
 use Rattle.madi.proofs.Standing.{Slots}
 use Rattle.madi.proofs.Sending.{even-same}

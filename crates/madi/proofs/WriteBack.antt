@@ -1,29 +1,25 @@
 -- Writing back an accepted line gives that line if all syncs came last; one proof for both channel counts. Assumes nothing.
 use mathlib.Core.Path.{_≡_, refl, sym, ap, ap₂, subst, _∙_}
-use mathlib.Core.Bool.{Bool, true, false, not, _||_}
-use mathlib.Core.List.{List, [], _∷_, _++_, map, append-nil}
-use Prim.Native.Nat.{ℕ, zero, suc, _+_, _*_, _-_, _/_, _%_, _^_, _≤_, _<_}
+use mathlib.Core.Bool.{Bool, true, false, _||_}
+use mathlib.Core.List.{List, [], _++_, map, append-nil}
+use Prim.Native.Nat.{ℕ, _+_, _-_, _%_, _≤_, _<_}
 use native.Mathlib.Omega.{arith}
-use borrow.Author.Tests.{eqb-true, le-leb, eq-eqb}
-use lib.Dec.{eqb, leb}
-use lib.ListN.{length, getD, take, drop, replicate, length-map, drop-of-length-le}
+use borrow.Author.Tests.{eqb-true, le-leb}
+use lib.Dec.{eqb}
+use lib.ListN.{length, getD, take, replicate, length-map, drop-of-length-le}
 use lib.Seq.{length-take-le, getD-take}
-use Rattle.bits.specs.Pick.{first}
 use Rattle.bits.specs.Row.{Row, odd, count, Below}
 use Rattle.bits.specs.Pack.{octets}
 use Rattle.bits.specs.Cross.{across}
-use Rattle.bits.proofs.Tests.{no-yes}
-use Rattle.bits.proofs.Firsts.{first-cases}
 use Rattle.bits.proofs.Counts.{count-le}
 use Rattle.bits.proofs.Crossing.{length-across}
 use Rattle.line.specs.Nrzi.{levels}
 use Rattle.madi_code.specs.Frame.{counted, evenBody, boundary}
 use Rattle.madi_read.specs.Reader.{carried, taken, cleared, readFrame}
 use Rattle.madi_read.proofs.Carrying.{length-carried}
-use Rattle.madi_read.proofs.Admitting.{Ranged}
-use Rattle.madi_write.specs.Writer.{marked, channelWords, frameRow, needed, frameOctets, clear, wordsAnswer, writeAnswer, written, writtenBy}
+use Rattle.madi_write.specs.Writer.{marked, channelWords, frameRow, needed, frameOctets, writeAnswer, written, writtenBy}
 use Rattle.madi_write.specs.declared.WriteAnswer.{WriteAnswer}
-use Rattle.madi_write.specs.declared.WriteAnswer.the-variants.{Written, Refused}
+use Rattle.madi_write.specs.declared.WriteAnswer.the-variants.{Written}
 use Rattle.madi_write.proofs.Frames.{length-frame}
 use Rattle.madi_write.proofs.Checks.{words-written}
 use Rattle.madi.specs.Units.{SyncsLast}

@@ -1,5 +1,5 @@
 -- A channel's word and its 40 bits: a turn of the writer, a turn of the reader, there and back. Assumes nothing.
-use mathlib.Core.Path.{_≡_, refl, sym, ap, ap₂, _∙_}
+use mathlib.Core.Path.{_≡_, refl, sym, ap, _∙_}
 use mathlib.Core.List.{List}
 use Prim.Native.Nat.{ℕ, zero, suc, _+_, _*_, _-_, _/_, _%_, _^_, _≤_, _<_}
 use native.Mathlib.Nat.{mod-eq-of-lt, mod-one, mod-lt, zero-add, mul-comm, mul-le-mul-right}
@@ -20,7 +20,6 @@ use Rattle.madi_code.specs.Groups.{code, sync, groupOf}
 use Rattle.madi_code.specs.Channels.{channelRow, onData, channelFrom, channelOf}
 use Rattle.madi_code.specs.declared.Group.{Group}
 use Rattle.madi_code.specs.declared.Group.the-variants.{Data, Nothing}
-use Rattle.madi_code.specs.declared.Channel.{Channel}
 use Rattle.madi_code.specs.declared.Channel.the-variants.{Word, Broken}
 use Rattle.madi_code.proofs.GroupLaws.{code-lt, code-no-sync, place-lt, group-data, group-only}
 

@@ -1,18 +1,18 @@
 -- Laws of the table of five-bit groups, each computed once over the whole table. Assumes nothing.
 use mathlib.Core.Path.{_≡_, refl, sym, ap, subst, _∙_}
-use mathlib.Core.Bool.{Bool, true, false, not}
+use mathlib.Core.Bool.{true, not}
 use mathlib.Core.List.{List, [], _∷_}
-use Prim.Native.Nat.{ℕ, _+_, _%_, _^_, _≤_, _<_}
-use native.Mathlib.Nat.{mod-eq-of-lt, zero-add, mod-lt}
+use Prim.Native.Nat.{ℕ, _+_, _≤_, _<_}
+use native.Mathlib.Nat.{mod-eq-of-lt}
 use native.Mathlib.Omega.{arith}
-use borrow.Author.Tests.{lt-ltb, eqb-true, ne-eqb}
+use borrow.Author.Tests.{lt-ltb, eqb-true}
 use lib.Dec.{T, eqb, ltb, ltb→lt, T-not}
 use lib.ListN.{getD}
 use Rattle.bits.specs.Pick.{pick, first}
-use Rattle.bits.specs.Row.{Row, bits, bigBits, little, big, digit, odd}
-use Rattle.bits.proofs.Every.{every, each, agree}
+use Rattle.bits.specs.Row.{bits, bigBits, little, big}
+use Rattle.bits.proofs.Every.{each, agree}
 use Rattle.bits.proofs.Firsts.{first-cases, first-map}
-use Rattle.bits.proofs.Rows.{little-lt, big-lt, length-bits, length-bigBits, bits-little, big-bigBits, bits-mod}
+use Rattle.bits.proofs.Rows.{little-lt, big-lt, length-bits, length-bigBits, bits-little, big-bigBits}
 use Rattle.madi_code.specs.Groups.{codes, code, groupOf}
 use Rattle.madi_code.specs.Inner.{meant}
 use Rattle.madi_code.specs.declared.Group.{Group}

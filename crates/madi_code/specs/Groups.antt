@@ -4,7 +4,7 @@ use mathlib.Core.List.{List, [], _∷_}
 use lib.Dec.{eqb}
 use lib.ListN.{getD}
 use Rattle.bits.specs.Pick.{first}
-use Rattle.bits.specs.Row.{Row, bits, bigBits, little, big}
+use Rattle.bits.specs.Row.{bigBits, little}
 use Rattle.madi_code.specs.declared.Group.{Group}
 use Rattle.madi_code.specs.declared.Group.the-variants.{Data, Nothing}
 

@@ -1,17 +1,15 @@
 -- What the checks before a frame say where none refuses. Assumes nothing.
-use mathlib.Core.Path.{_≡_, refl, sym, ap, _∙_}
-use mathlib.Core.Bool.{Bool, true, false, _&&_, _||_}
+use mathlib.Core.Path.{_≡_}
+use mathlib.Core.Bool.{true, _&&_}
 use mathlib.Core.List.{List}
-use Prim.Native.Nat.{ℕ, _+_, _*_, _-_, _/_, _≤_, _<_}
+use Prim.Native.Nat.{ℕ, _-_, _≤_}
 use native.Mathlib.Omega.{arith}
-use borrow.Author.Tests.{leb-true, eqb-true}
-use lib.Dec.{eqb, leb}
-use Rattle.bits.specs.Pick.{pick}
+use borrow.Author.Tests.{leb-true}
+use lib.Dec.{leb}
 use Rattle.bits.proofs.Tests.{both-true}
 use Rattle.madi_code.proofs.FrameLaws.{counted-le}
 use Rattle.madi_code.specs.Frame.{counted}
-use Rattle.madi_read.specs.Reader.{inRange, Reading, taken, refused, answerOf, wordsOf}
-use Rattle.madi_read.specs.declared.ReadAnswer.{ReadAnswer}
+use Rattle.madi_read.specs.Reader.{inRange, Reading, taken, refused, answerOf}
 use Rattle.madi_read.specs.declared.ReadAnswer.the-variants.{Read, Refused}
 
 pub record Ranged (channels level bits : ℕ) : Type 0 where

@@ -1,8 +1,8 @@
 -- Laws of reading boundary by boundary: what a piece says of the room that it was found in, and one step of reading. Assumes nothing.
-use mathlib.Core.Path.{_≡_, refl, sym, ap, _∙_}
-use mathlib.Core.Bool.{Bool, true, false, _&&_}
+use mathlib.Core.Path.{_≡_, refl}
+use mathlib.Core.Bool.{true, _&&_}
 use mathlib.Core.List.{List}
-use Prim.Native.Nat.{ℕ, zero, suc, _+_, _*_, _-_, _≤_, _<_}
+use Prim.Native.Nat.{ℕ, suc, _+_, _-_, _≤_, _<_}
 use native.Mathlib.Omega.{arith}
 use borrow.Author.Tests.{ltb-true, ltb-false, leb-true, eqb-true, eqb-false}
 use lib.Dec.{eqb, ltb, leb}
@@ -16,7 +16,7 @@ use Rattle.madi_code.specs.Channels.{channelOf}
 use Rattle.madi_code.specs.Frame.{evenBody, boundary}
 use Rattle.madi_code.specs.declared.Channel.{Channel}
 use Rattle.madi_code.specs.declared.Channel.the-variants.{Word, Broken}
-use Rattle.madi_read.specs.Reader.{firstRight, activeRight, slotOf, slotAt, isSync, endOf, syncOf, pieceAt, Reading, next, readFrom}
+use Rattle.madi_read.specs.Reader.{firstRight, activeRight, slotAt, isSync, pieceAt, next, readFrom}
 use Rattle.madi_read.specs.declared.Piece.{Piece}
 use Rattle.madi_read.specs.declared.Piece.the-variants.{End, Sync, Slot, Bad}
 

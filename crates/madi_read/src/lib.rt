@@ -11,7 +11,7 @@ ghost use Rattle.line.specs.Nrzi.{changes};
 ghost use Rattle.madi_code.specs.Groups.{sync};
 ghost use Rattle.madi_code.specs.Frame.{boundary};
 ghost use Rattle.madi_code.specs.Inner.{Octets};
-ghost use Rattle.madi_read.specs.Reader.{carried, firstRight, activeRight, slotOf, endOf, syncOf, isSync, pieceAt, readRow, readFrame, answerOf, wordsOf, inRange, spareZero};
+ghost use Rattle.madi_read.specs.Reader.{carried, firstRight, activeRight, slotOf, endOf, syncOf, pieceAt, readRow, readFrame, answerOf, wordsOf, inRange, spareZero};
 ghost use Rattle.madi_read.specs.Inner.{Held, shortPiece, Plain, Reached};
 use madi_code::Channel;
 

@@ -1,16 +1,14 @@
 -- A frame's octets in blocks of five: the levels of a block, the octets of its levels, what is left after the last whole block. Assumes nothing.
-use mathlib.Core.Path.{_≡_, refl, sym, ap, ap₂, _∙_}
-use mathlib.Core.List.{List, [], _∷_, _++_}
-use mathlib.Core.Bool.{Bool}
-use Prim.Native.Nat.{ℕ, zero, suc, _+_, _*_, _-_, _/_, _%_, _^_, _≤_, _<_}
-use native.Mathlib.Nat.{add-zero, zero-add}
+use mathlib.Core.Path.{_≡_, sym, ap, ap₂, _∙_}
+use mathlib.Core.List.{List, _∷_}
+use Prim.Native.Nat.{ℕ, suc, _+_, _*_, _-_, _/_, _%_, _^_, _≤_, _<_}
+use native.Mathlib.Nat.{add-zero}
 use native.Mathlib.Omega.{arith}
 use lib.Bits.{bitXor}
 use lib.ListN.{length, getD}
 use lib.Pow.{pow-mono}
 use Rattle.bits.specs.Row.{Row, odd, digit, big}
-use Rattle.bits.specs.Window.{part, window}
-use Rattle.bits.specs.Pack.{octets, pack}
+use Rattle.bits.specs.Window.{window}
 use Rattle.bits.proofs.Digits.{digit-same}
 use Rattle.bits.proofs.Xor.{against, against-twice, against-out}
 use Rattle.bits.proofs.Windows.{window-lt, window-split, window-low, window-inside, window-past}

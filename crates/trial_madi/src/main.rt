@@ -1,6 +1,6 @@
 // MADI frames written, read back and damaged, and frames put together unit by unit. The file `stdout` is what
 // tests/second/trial_madi.c prints over the second program. Here stands what the cases share.
-ghost use Prim.Native.Nat.{_<_, _≤_};
+ghost use Prim.Native.Nat.{_<_};
 use madi_read::ReadAnswer;
 use madi_write::WriteAnswer;
 

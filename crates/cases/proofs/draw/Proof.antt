@@ -1,11 +1,11 @@
 -- `cases::draw` meets its contract. The loop's invariant: what is drawn, followed by what is still to be drawn, is the whole, and the last
 -- number is the same from here. Assumes nothing.
-use mathlib.Core.Path.{_≡_, refl, sym, _∙_}
-use mathlib.Core.List.{List, [], _∷_, _++_}
-use Prim.Native.Nat.{ℕ, zero, suc, _+_, _-_, _≤_, _<_}
+use mathlib.Core.Path.{_≡_, refl}
+use mathlib.Core.List.{_∷_, _++_}
+use Prim.Native.Nat.{ℕ, suc, _+_, _-_, _≤_, _<_}
 use native.Mathlib.Omega.{arith}
 use borrow.Author.Needs.{needs}
-use lib.ListN.{length, take, set, length-set}
+use lib.ListN.{length, take, length-set}
 use Rattle.bits.proofs.Filling.{filled, filled-all}
 use Rattle.cases.specs.Cases.{next, octetOf, after, drawn}
 use Rattle.cases.proofs.draw.Statement.{statement}

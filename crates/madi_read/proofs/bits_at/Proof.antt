@@ -1,7 +1,6 @@
 -- `madi_read::bits_at` meets its contract: the levels against the levels one place earlier. Assumes nothing.
 use native.Mathlib.Omega.{arith}
 use borrow.Author.Needs.{needs}
-use lib.ListN.{length}
 use lib.Pow.{pow-pos}
 use Rattle.bits.specs.Row.{odd}
 use Rattle.bits.specs.Pack.{symbols}

@@ -1,9 +1,8 @@
 -- `madi_read::read_checked` meets its contract: the walk, then the copy. Assumes nothing.
-use mathlib.Core.Path.{_≡_, refl, sym, ap, _∙_, subst}
-use Prim.Native.Nat.{ℕ, _≤_}
-use native.Mathlib.Omega.{arith}
+use mathlib.Core.Path.{sym, ap, _∙_, subst}
+use Prim.Native.Nat.{ℕ}
 use borrow.Author.Needs.{needs}
-use lib.ListN.{length, take}
+use lib.ListN.{take}
 use Rattle.madi_read.specs.Reader.{carried, Reading, readRow, answerOf, wordsOf}
 use Rattle.madi_read.specs.Inner.{Held}
 use Rattle.madi_read.proofs.Admitting.{taken-is, refused-is}

@@ -1,11 +1,9 @@
 -- `madi_read::read_frame` meets its contract: the checks, then the frame. Assumes nothing.
-use mathlib.Core.Path.{_≡_, sym, ap, _∙_}
-use Prim.Native.Nat.{ℕ, _≤_}
+use mathlib.Core.Path.{sym, _∙_}
 use native.Mathlib.Omega.{arith}
 use borrow.Author.Needs.{needs}
 use borrow.Author.Tests.{eq-eqb, ne-eqb}
-use lib.ListN.{length}
-use Rattle.madi_read.specs.Reader.{Reading, carried, readRow, readFrame, answerOf, wordsOf}
+use Rattle.madi_read.specs.Reader.{readFrame}
 use Rattle.madi_read.proofs.Admitting.{Ranged, ranged}
 use Rattle.madi_read.proofs.read_frame.Statement.{statement}
 use Rattle.madi_read.proofs.read_frame.Tie as tie

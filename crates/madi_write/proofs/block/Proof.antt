@@ -1,11 +1,9 @@
 -- `madi_write::block` meets its contract: a channel's bits, or four syncs. Assumes nothing.
-use mathlib.Core.Path.{_≡_, sym, ap, _∙_}
-use Prim.Native.Nat.{ℕ, _<_}
+use mathlib.Core.Path.{_∙_}
+use Prim.Native.Nat.{_<_}
 use native.Mathlib.Omega.{arith}
 use borrow.Author.Needs.{needs}
 use borrow.Author.Tests.{lt-ltb, le-ltb}
-use Rattle.bits.specs.Row.{big}
-use Rattle.madi_code.specs.Channels.{channelRow}
 use Rattle.madi_code.proofs.PairLaws.{pairs-sent}
 use Rattle.madi_write.specs.Inner.{sentWord, syncsNumber, blockOf}
 use Rattle.madi_write.proofs.block.Statement.{statement}

@@ -1,5 +1,5 @@
 -- `madi_write::check_words` meets its contract: where the sum is nothing, no word breaks a rule. Assumes nothing.
-use mathlib.Core.Path.{_≡_, sym, _∙_}
+use mathlib.Core.Path.{sym}
 use borrow.Author.Needs.{needs}
 use Rattle.madi_write.proofs.Checks.{words-written}
 use Rattle.madi_write.proofs.check_words.Statement.{statement}

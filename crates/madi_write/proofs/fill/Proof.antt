@@ -1,5 +1,5 @@
 -- `madi_write::fill` meets its contract: the octets passed are the frame's, and `last` is the level before the next block. Assumes nothing.
-use mathlib.Core.Path.{_≡_, refl, sym, ap, ap₂, subst, _∙_}
+use mathlib.Core.Path.{_≡_, refl, ap, ap₂, subst, _∙_}
 use mathlib.Core.List.{List, _++_}
 use Prim.Native.Nat.{ℕ, _+_, _*_, _-_, _/_, _%_, _^_, _≤_, _<_}
 use native.Mathlib.Omega.{arith}
@@ -11,9 +11,8 @@ use lib.Pow.{pow-mono, shl-exact, shl-lt, shr-le}
 use Rattle.bits.specs.Window.{window}
 use Rattle.bits.proofs.Filling.{over, length-over}
 use Rattle.bits.proofs.Windows.{window-lt}
-use Rattle.madi_code.specs.Frame.{boundary}
 use Rattle.madi_write.specs.Writer.{frameRow, frameOctets, needed}
-use Rattle.madi_write.specs.Inner.{syncsNumber, blockOf, Levels}
+use Rattle.madi_write.specs.Inner.{syncsNumber, Levels}
 use Rattle.madi_write.proofs.Frames.{block-window, fewer-syncs}
 use Rattle.madi_write.proofs.Blocks.{sent, first-level, block-levels, next-level, tail-levels, length-octets, octet-right}
 use Rattle.madi_write.proofs.fill.Statement.{statement}

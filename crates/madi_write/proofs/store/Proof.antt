@@ -1,13 +1,12 @@
 -- `madi_write::store` meets its contract: one octet more is new with each turn. Assumes nothing.
 use mathlib.Core.Path.{_≡_, refl, sym, ap, ap₂, _∙_}
-use mathlib.Core.List.{List, _++_}
+use mathlib.Core.List.{List}
 use Prim.Native.Nat.{ℕ, _+_, _*_, _-_, _/_, _%_, _^_, _≤_, _<_}
 use native.Mathlib.Nat.{add-zero}
 use native.Mathlib.Omega.{arith}
 use borrow.Author.Needs.{needs}
-use lib.ListN.{length, getD, set, take, drop, length-set}
+use lib.ListN.{length, getD, set, length-set}
 use Rattle.bits.proofs.Filling.{over, over-next}
-use Rattle.madi_write.specs.Inner.{Stored}
 use Rattle.madi_write.proofs.store.Statement.{statement}
 use Rattle.madi_write.proofs.store.Tie as tie
 

@@ -1,11 +1,10 @@
 -- `madi_write::write_frame` meets its contract: the checks, and then the octets. Assumes nothing.
-use mathlib.Core.Path.{_≡_, sym, ap, _∙_}
-use native.Mathlib.Omega.{arith}
+use mathlib.Core.Path.{sym, ap, _∙_}
 use borrow.Author.Needs.{needs}
 use lib.ListN.{length}
-use Rattle.madi_write.specs.Writer.{writeAnswer, writtenBy}
+use Rattle.madi_write.specs.Writer.{writtenBy}
 use Rattle.madi_write.specs.declared.WriteAnswer.{WriteAnswer}
-use Rattle.madi_write.proofs.Checks.{Writable, writable}
+use Rattle.madi_write.proofs.Checks.{writable}
 use Rattle.madi_write.proofs.write_frame.Statement.{statement}
 use Rattle.madi_write.proofs.write_frame.Tie as tie
 

@@ -1,11 +1,11 @@
 -- `records::fill_words` meets its contract. Assumes nothing.
-use mathlib.Core.Path.{_≡_, refl, sym, ap, ap₂, _∙_}
+use mathlib.Core.Path.{_≡_, refl, ap₂, _∙_}
 use mathlib.Core.List.{List}
 use Prim.Native.Nat.{ℕ, _+_, _-_, _*_, _≤_, _<_}
 use native.Mathlib.Omega.{arith}
 use borrow.Author.Needs.{needs}
 use lib.ListN.{length, getD, set}
-use Rattle.bits.proofs.Filling.{over, over-next, over-all, length-over}
+use Rattle.bits.proofs.Filling.{over, over-next, over-all}
 use Rattle.records.specs.Record.{paired}
 use Rattle.records.proofs.RecordLaws.{length-paired, paired-at}
 use Rattle.records.proofs.fill_words.Statement.{statement}

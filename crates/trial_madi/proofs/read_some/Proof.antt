@@ -1,9 +1,7 @@
 -- `trial_madi::read_some` is safe and ends. Assumes nothing.
-use Prim.Native.Nat.{_-_, _*_, _≤_, _<_}
-use mathlib.Core.Path.{_≡_, refl}
+use Prim.Native.Nat.{_-_}
 use native.Mathlib.Omega.{arith}
 use borrow.Author.Needs.{needs}
-use lib.ListN.{length}
 use mathlib.Core.Path.{sym}
 use lib.Seq.{length-take-le}
 use Rattle.trial_madi.proofs.read_some.Statement.{statement}

@@ -1,7 +1,5 @@
 -- `trial_madi::sum_octets` is safe and ends. Assumes nothing.
-use Prim.Native.Nat.{_-_, _*_, _≤_, _<_}
-use mathlib.Core.Path.{_≡_, refl}
-use native.Mathlib.Omega.{arith}
+use Prim.Native.Nat.{_-_, _≤_}
 use borrow.Author.Needs.{needs}
 use lib.ListN.{length}
 use Rattle.trial_madi.proofs.sum_octets.Statement.{statement}

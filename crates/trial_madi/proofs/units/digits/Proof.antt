@@ -1,9 +1,6 @@
 -- `trial_madi::units::digits` is safe and ends. Assumes nothing.
-use Prim.Native.Nat.{_-_, _*_, _≤_, _<_}
-use mathlib.Core.Path.{_≡_, refl}
-use native.Mathlib.Omega.{arith}
+use Prim.Native.Nat.{_-_, _≤_}
 use borrow.Author.Needs.{needs}
-use lib.ListN.{length}
 use Rattle.trial_madi.proofs.units.digits.Statement.{statement}
 use Rattle.trial_madi.proofs.units.digits.Tie as tie
 
