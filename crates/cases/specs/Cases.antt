@@ -24,6 +24,11 @@ drawn (suc n) x = octetOf (next x) ∷ drawn n (next x)
 abbrev pub withOctet : ℕ → ℕ → ℕ
 withOctet sum o = (sum % 65521 * 31 + o % 256) % 65521
 
-unfoldable pub summed : ℕ → List ℕ → ℕ
-summed sum [] = sum
-summed sum (o ∷ os) = summed (withOctet sum o) os
+-- a sum carried over a list
+unfoldable pub over : {A : Type 0} → (ℕ → A → ℕ) → ℕ → List A → ℕ
+over f sum [] = sum
+over f sum (x ∷ xs) = over f (f sum x) xs
+
+-- the four octets of a word, the lowest first
+abbrev pub withWord : ℕ → ℕ → ℕ
+withWord sum w = withOctet (withOctet (withOctet (withOctet sum w) (w / 256)) (w / 65536)) (w / 16777216)

@@ -1,8 +1,8 @@
 // What the trial programs share with the C programs under tests/second: numbers drawn one after the other, octets drawn into a
-// buffer, and the sum by which a buffer is compared.
+// buffer, and the sums by which buffers are compared.
 ghost use mathlib.Core.Path.{_≡_};
 ghost use lib.ListN.{length};
-ghost use Rattle.cases.specs.Cases.{next, octetOf, joined, drawn, after, withOctet, summed};
+ghost use Rattle.cases.specs.Cases.{next, octetOf, joined, drawn, after, over, withOctet, withWord};
 
 // The number after x.
 pub fn next(x: u32) -> u32
@@ -55,12 +55,36 @@ fn wide(o: u8) -> u64
 
 // The sum of some octets, in which each counts by its place.
 pub fn sum(octets: &[u8]) -> u64
-    ensures { λ r. ⌜ r ≡ summed 0 (now (octets .entry)) ⌝ }
+    ensures { λ r. ⌜ r ≡ over withOctet 0 (now (octets .entry)) ⌝ }
 {
     let mut sum = 0;
     let mut i = 0;
     while i < octets.len() {
         sum = with_octet(sum, wide(octets[i]));
+        i += 1;
+    }
+    sum
+}
+
+// A sum with the four octets of a word more, the lowest first.
+pub fn with_word(sum: u64, word: u32) -> u64
+    ensures { λ r. ⌜ r ≡ withWord sum word ⌝ }
+{
+    let w = word as u64;
+    with_octet(
+        with_octet(with_octet(with_octet(sum, w), w / 256), w / 65536),
+        w / 16777216,
+    )
+}
+
+// The sum of some words.
+pub fn sum_words(words: &[u32]) -> u64
+    ensures { λ r. ⌜ r ≡ over withWord 0 (now (words .entry)) ⌝ }
+{
+    let mut sum = 0;
+    let mut i = 0;
+    while i < words.len() {
+        sum = with_word(sum, words[i]);
         i += 1;
     }
     sum

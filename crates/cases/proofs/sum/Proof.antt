@@ -1,17 +1,16 @@
 -- `cases::sum` meets its contract. The loop's invariant: the sum so far, carried on over what is left, is the whole. Assumes nothing.
-use mathlib.Core.Path.{_≡_, refl, _∙_}
+use mathlib.Core.Path.{_≡_, refl, sym, _∙_}
+use Prim.Native.Nat.{ℕ, _-_, _≤_}
 use mathlib.Core.List.{List}
-use Prim.Native.Nat.{ℕ, _+_, _-_, _≤_, _<_}
-use native.Mathlib.Numerals.{add-one}
 use borrow.Author.Needs.{needs}
-use lib.ListN.{length, drop, getD, drop-of-length-le}
-use lib.Seq.{drop-cons}
-use Rattle.cases.specs.Cases.{withOctet, summed}
+use lib.ListN.{length, drop}
+use Rattle.cases.specs.Cases.{withOctet, over}
+use Rattle.cases.proofs.Sums.{one-more, at-end}
 use Rattle.cases.proofs.sum.Statement.{statement}
 use Rattle.cases.proofs.sum.Tie as tie
 
 abbrev Inv-loop : tie.InvT-loop
-Inv-loop octets sum₀ i₀ sum i = (i ≤ length octets) × (summed sum (drop i octets) ≡ summed 0 octets)
+Inv-loop octets sum₀ i₀ sum i = (i ≤ length octets) × (over withOctet sum (drop i octets) ≡ over withOctet 0 octets)
 
 abbrev μ-loop : tie.MeasureT-loop
 μ-loop octets sum₀ i₀ sum i = length octets - i
@@ -34,22 +33,16 @@ add-i c = search needs
 loop-less : tie.Need-loop-less Inv-loop μ-loop
 loop-less c = search needs
 
-next-octet : (os : List ℕ) (i h : ℕ) → i < length os → summed (withOctet h (getD os i 0)) (drop (i + 1) os) ≡ summed h (drop i os)
-unfolding summed
-next-octet os i h l = rw (drop-cons os i 0 l, add-one i)
-
 loop-again : tie.Need-loop-again Inv-loop μ-loop
 loop-again c =
     let l = c .before .before .before .before .loop in
     let os : List ℕ = c .before .before .before .before .before .before .args .octets .now in
-    (search needs, rw (c .with-octet .ensures, c .before .wide .ensures) (next-octet os (l .i) (l .sum) (search needs) ∙ l .inv .1))
+    (search needs, rw (c .with-octet .ensures, c .before .wide .ensures) (one-more withOctet os 0 (l .i) (l .sum) (search needs) ∙ l .inv .1))
 
 returns : tie.Need-returns Inv-loop μ-loop
-unfolding summed
 returns c =
     let l = c .before .loop in
-    let os : List ℕ = c .before .before .before .args .octets .now in
-    rw (drop-of-length-le os (c .loop-test .left)) at (l .inv .1)
+    sym (at-end withOctet (c .before .before .before .args .octets .now) 0 (l .i) (l .sum) (c .loop-test .left)) ∙ l .inv .1
 
 pub sum-spec : {M : Type 1} → statement M
 sum-spec =
