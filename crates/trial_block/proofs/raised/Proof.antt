@@ -1,4 +1,4 @@
--- `trial_block::sums::raised` is safe and ends: a sample in range, with 2^24 added, is no less than 0. Assumes nothing.
+-- `trial_block::raised` is safe and ends: a sample in range, with 2^24 added, is no less than 0. Assumes nothing.
 use mathlib.Core.Path.{_≡_, sym, ap, _∙_, subst⁻¹}
 use Prim.Native.Nat.{_<_}
 use native.Mathlib.Omega.{arith}
@@ -11,8 +11,8 @@ use mir.Syntax.{w32}
 use mir.Val.{SFits, Fits, toZ, ofZ}
 use mir.Facts.{toZ-ofZ}
 use Rattle.subframe.proofs.SignedLaws.{raised, raise, raised-lt}
-use Rattle.trial_block.proofs.sums.raised.Statement.{statement}
-use Rattle.trial_block.proofs.sums.raised.Tie as tie
+use Rattle.trial_block.proofs.raised.Statement.{statement}
+use Rattle.trial_block.proofs.raised.Tie as tie
 
 module _ (c : tie.Then1) where
   abbrev z : ℤ

@@ -1,9 +1,9 @@
--- `trial_block::sums::sum_samples` is safe and ends. Assumes nothing.
+-- `trial_block::sum_samples` is safe and ends. Assumes nothing.
 use Prim.Native.Nat.{_-_, _≤_}
 use borrow.Author.Needs.{needs}
 use lib.ListN.{length}
-use Rattle.trial_block.proofs.sums.sum_samples.Statement.{statement}
-use Rattle.trial_block.proofs.sums.sum_samples.Tie as tie
+use Rattle.trial_block.proofs.sum_samples.Statement.{statement}
+use Rattle.trial_block.proofs.sum_samples.Tie as tie
 
 abbrev Inv-loop : tie.InvT-loop
 Inv-loop samples h₀ i₀ h i = i ≤ length samples

@@ -1,9 +1,9 @@
--- `trial_block::sums::sum_octets` is safe and ends. Assumes nothing.
+-- `trial_block::sum_octets` is safe and ends. Assumes nothing.
 use Prim.Native.Nat.{_-_, _≤_}
 use borrow.Author.Needs.{needs}
 use lib.ListN.{length}
-use Rattle.trial_block.proofs.sums.sum_octets.Statement.{statement}
-use Rattle.trial_block.proofs.sums.sum_octets.Tie as tie
+use Rattle.trial_block.proofs.sum_octets.Statement.{statement}
+use Rattle.trial_block.proofs.sum_octets.Tie as tie
 
 abbrev Inv-loop : tie.InvT-loop
 Inv-loop octets h₀ i₀ h i = i ≤ length octets

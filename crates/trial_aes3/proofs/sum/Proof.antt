@@ -1,9 +1,9 @@
--- `trial_aes3::sums::sum` meets its contract. What is left of the slice is the measure. Assumes nothing.
+-- `trial_aes3::sum` meets its contract. What is left of the slice is the measure. Assumes nothing.
 use Prim.Native.Nat.{_-_, _≤_}
 use borrow.Author.Needs.{needs}
 use lib.ListN.{length}
-use Rattle.trial_aes3.proofs.sums.sum.Statement.{statement}
-use Rattle.trial_aes3.proofs.sums.sum.Tie as tie
+use Rattle.trial_aes3.proofs.sum.Statement.{statement}
+use Rattle.trial_aes3.proofs.sum.Tie as tie
 
 abbrev Inv-loop : tie.InvT-loop
 Inv-loop octets h₀ i₀ h i = i ≤ length octets
