@@ -77,11 +77,11 @@ pub fn with_word(sum: u64, word: u32) -> u64
     )
 }
 
-// The sum of some words.
-pub fn sum_words(words: &[u32]) -> u64
-    ensures { λ r. ⌜ r ≡ over withWord 0 (now (words .entry)) ⌝ }
+// A sum carried on over some words.
+pub fn sum_words(from: u64, words: &[u32]) -> u64
+    ensures { λ r. ⌜ r ≡ over withWord from (now (words .entry)) ⌝ }
 {
-    let mut sum = 0;
+    let mut sum = from;
     let mut i = 0;
     while i < words.len() {
         sum = with_word(sum, words[i]);

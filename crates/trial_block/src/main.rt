@@ -1,17 +1,13 @@
 // Bodies, side tables and blocks on generated cases. The file `stdout` is what tests/second/trial_block.c prints.
 use block::BlockAnswer;
+use cases::draw;
+use cases::join;
+use cases::next;
+use cases::sum;
+use cases::sum_words;
+use cases::with_word;
 use subframe::BodyAnswer;
 use subframe::FieldsAnswer;
-
-// The generator that both programs use; a value is 16 bits of its state.
-fn next(x: u32) -> u32 {
-    ((x as u64 * 1664525 + 1013904223) % 4294967296) as u32
-}
-
-// 32 bits of two values.
-fn wide(x: u32, y: u32) -> u32 {
-    x / 65536 * 65536 + y / 65536
-}
 
 fn number(n: u64) {
     io::write_all(1, b" ");
@@ -39,49 +35,12 @@ fn raised(sample: i32) -> u32 {
     }
 }
 
-// A running sum that every octet counts in.
-fn with_octet(h: u64, octet: u64) -> u64 {
-    (h % 65521 * 31 + octet % 256) % 65521
-}
-
-fn with_word(h: u64, word: u32) -> u64 {
-    let w = word as u64;
-    with_octet(
-        with_octet(with_octet(with_octet(h, w), w / 256), w / 65536),
-        w / 16777216,
-    )
-}
-
-fn big(o: u8) -> u64 {
-    o as u64
-}
-
-fn sum_octets(octets: &[u8]) -> u64 {
-    let mut h: u64 = 0;
-    let mut i = 0;
-    while i < octets.len() {
-        h = with_octet(h, big(octets[i]));
-        i += 1;
-    }
-    h
-}
-
 fn sum_samples(samples: &[i32]) -> u64 {
     let mut h: u64 = 0;
     let mut i: usize = 0;
     while i < samples.len() {
         let x = samples[i];
         h = with_word(h, raised(x));
-        i += 1;
-    }
-    h
-}
-
-fn sum_bodies(bodies: &[u32]) -> u64 {
-    let mut h: u64 = 0;
-    let mut i: usize = 0;
-    while i < bodies.len() {
-        h = with_word(h, bodies[i]);
         i += 1;
     }
     h
@@ -140,7 +99,7 @@ fn write_case(i: u32, seed: u32) -> u32 {
     let u = next(v);
     let c = next(u);
     write(
-        sample_of_kind(i % 9, wide(a, b)),
+        sample_of_kind(i % 9, join(a, b)),
         digit(i, 17, v),
         digit(i, 19, u),
         digit(i, 23, c),
@@ -184,7 +143,7 @@ fn read(body: u32) {
 fn read_case(seed: u32) -> u32 {
     let a = next(seed);
     let b = next(a);
-    let any = wide(a, b);
+    let any = join(a, b);
     let clean = any / 16 * 16;
     read(any);
     read(clean);
@@ -204,17 +163,6 @@ fn reads(seed: u32) -> u32 {
 
 // ---- columns: 192 numbers into each column of a table, and bits of the table
 
-fn draw_octets(octets: &mut [u8], seed: u32) -> u32 {
-    let mut x = seed;
-    let mut i: usize = 0;
-    while i < octets.len() {
-        x = next(x);
-        octets[i] = (x / 65536 % 256) as u8;
-        i += 1;
-    }
-    x
-}
-
 // The first so many octets of the column from the first so many numbers.
 fn fill_part(column: &mut [u8], octets: usize, drawn: &[u8], frames: usize) {
     if column.len() < octets {
@@ -230,10 +178,10 @@ fn fill_part(column: &mut [u8], octets: usize, drawn: &[u8], frames: usize) {
 fn column_case(seed: u32, octets: usize, frames: usize) -> u32 {
     let mut drawn = [0u8; 192];
     let mut column = [7u8; 30];
-    let x = draw_octets(&mut drawn, seed);
+    let x = draw(&mut drawn, seed);
     io::write_all(1, b"column");
     fill_part(&mut column, octets, &drawn, frames);
-    number(sum_octets(&column));
+    number(sum(&column));
     number(subframe::side_bit(&drawn, octets % 8, frames) as u64);
     number(subframe::side_bit(&drawn, frames % 6, octets % 31 * 5) as u64);
     end();
@@ -260,7 +208,7 @@ fn draw_samples(samples: &mut [i32], seed: u32) -> u32 {
     while i < samples.len() {
         let a = next(x);
         let b = next(a);
-        let s = subframe::sample_of(wide(a, b));
+        let s = subframe::sample_of(join(a, b));
         samples[i] = s;
         x = b;
         i += 1;
@@ -344,7 +292,7 @@ fn back(bodies: &[u32]) {
     let mut side = [5u8; 144];
     number(block::fill_block(bodies, &mut samples, &mut side) as u64);
     number(sum_samples(&samples));
-    number(sum_octets(&side));
+    number(sum(&side));
     truth(block::status_right(&side, 0));
     truth(block::status_right(&side, 1));
     truth(block::status_right(&side, 2));
@@ -357,7 +305,7 @@ fn there(samples: &[i32], side: &[u8]) {
         bodies[i] = block::body_at(samples, side, i);
         i += 1;
     }
-    number(sum_bodies(&bodies));
+    number(sum_words(0, &bodies));
     number(block::body_at(samples, side, 384) as u64);
     back(&bodies);
 }
@@ -433,7 +381,7 @@ fn block_case(kind: usize, seed: u32) -> u32 {
     let mut samples = [0i32; 384];
     let mut side = [0u8; 144];
     let y = draw_samples(&mut samples, seed);
-    let x = draw_octets(&mut side, y);
+    let x = draw(&mut side, y);
     spoil(&mut samples, kind, x);
     mark_kind(&mut side, kind);
     status(&mut side, 0, first_a(kind), more_a(kind));

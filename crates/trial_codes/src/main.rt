@@ -1,16 +1,11 @@
 // The check codes on published vectors and on generated cases. The file `stdout` is what tests/second/trial_codes.c prints.
+use cases::draw;
+use cases::next;
+use cases::octet;
+use cases::sum;
 use codes::Crcc;
 use codes::LaneAnswer;
 use codes::StagesAnswer;
-
-// The generator that both programs use; a value is 16 bits of its state.
-fn next(x: u32) -> u32 {
-    ((x as u64 * 1664525 + 1013904223) % 4294967296) as u32
-}
-
-fn octet(x: u32) -> u8 {
-    (x / 65536 % 256) as u8
-}
 
 fn number(n: u64) {
     io::write_all(1, b" ");
@@ -31,17 +26,6 @@ fn truth(b: bool) {
 
 fn wide(o: u8) -> u64 {
     o as u64
-}
-
-// A sum that every octet counts in.
-fn sum(octets: &[u8]) -> u64 {
-    let mut h: u64 = 0;
-    let mut i = 0;
-    while i < octets.len() {
-        h = (h % 65521 * 31 + wide(octets[i]) % 256) % 65521;
-        i += 1;
-    }
-    h
 }
 
 // ---- published vectors
@@ -86,17 +70,6 @@ fn check_value() {
 }
 
 // ---- sealing: the first 0 to 31 octets of 32
-
-fn draw(octets: &mut [u8], seed: u32) -> u32 {
-    let mut x = seed;
-    let mut i: usize = 0;
-    while i < octets.len() {
-        x = next(x);
-        octets[i] = octet(x);
-        i += 1;
-    }
-    x
-}
 
 fn seal(part: &mut [u8]) {
     io::write_all(1, b"seal");

@@ -1,13 +1,10 @@
 // HD packets written, read, damaged and repaired. The file `stdout` is what tests/second/trial_hd.c prints over the second program.
+use cases::next;
+use cases::with_octet;
 use hd::DbnAnswer;
 use hd_read::ReadAnswer;
 use hd_repair::RepairAnswer;
 use hd_write::WriteAnswer;
-
-// The generator that both programs use.
-fn next(x: u32) -> u32 {
-    ((x as u64 * 1664525 + 1013904223) % 4294967296) as u32
-}
 
 fn number(n: u64) {
     io::write_all(1, b" ");
@@ -31,32 +28,13 @@ fn verdict(n: u32, place: u32) {
     number(wide(place));
 }
 
-// One octet more of a sum that every octet counts in.
-fn more(h: u64, octet: u64) -> u64 {
-    (h % 65521 * 31 + octet % 256) % 65521
-}
-
 fn sum_words(words: &[u16]) -> u64 {
     let mut h: u64 = 0;
     let mut i = 0;
     while i < words.len() {
         let w = wide16(words[i]);
-        h = more(h, w);
-        h = more(h, w / 256);
-        i += 1;
-    }
-    h
-}
-
-fn sum_bodies(bodies: &[u32]) -> u64 {
-    let mut h: u64 = 0;
-    let mut i = 0;
-    while i < bodies.len() {
-        let b = wide(bodies[i]);
-        h = more(h, b);
-        h = more(h, b / 256);
-        h = more(h, b / 65536);
-        h = more(h, b / 16777216);
+        h = with_octet(h, w);
+        h = with_octet(h, w / 256);
         i += 1;
     }
     h
@@ -114,7 +92,7 @@ fn read_into(words: &[u16], bodies: &mut [u32]) {
             io::write_all(1, b" 0 0 0 0 0 0");
         }
     }
-    number(sum_bodies(bodies));
+    number(cases::sum_words(0, bodies));
     end();
 }
 

@@ -3,16 +3,10 @@
 ghost use mathlib.Core.Path.{_≡_};
 ghost use Prim.Native.Nat.{_<_};
 ghost use lib.ListN.{length};
+use cases::draw;
+use cases::next;
+use cases::octet;
 use hunt::Found;
-
-// The generator that both programs use; an octet is eight bits of its state.
-fn next(x: u32) -> u32 {
-    ((x as u64 * 1664525 + 1013904223) % 4294967296) as u32
-}
-
-fn octet(x: u32) -> u8 {
-    (x / 65536 % 256) as u8
-}
 
 fn number(n: u32) {
     io::write_all(1, b" ");
@@ -24,17 +18,6 @@ fn room() -> [u8; 8193]
     ensures { λ r. ⌜ 8193 ≡ length r ⌝ }
 {
     [0; 8193]
-}
-
-fn draw(line: &mut [u8], seed: u32) -> u32 {
-    let mut x = seed;
-    let mut i: usize = 0;
-    while i < line.len() {
-        x = next(x);
-        line[i] = octet(x);
-        i += 1;
-    }
-    x
 }
 
 fn clear(line: &mut [u8]) {

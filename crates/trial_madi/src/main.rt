@@ -1,16 +1,15 @@
 // MADI frames written, read back and damaged, and frames put together unit by unit. The file `stdout` is what
 // tests/second/trial_madi.c prints over the second program. Here stands what the cases share.
 ghost use Prim.Native.Nat.{_<_};
+use cases::next;
+use cases::sum;
+use cases::sum_words;
+use cases::with_word;
 use madi_read::ReadAnswer;
 use madi_write::WriteAnswer;
 
 mod frames;
 mod units;
-
-// The generator that both programs use.
-fn next(x: u32) -> u32 {
-    ((x as u64 * 1664525 + 1013904223) % 4294967296) as u32
-}
 
 fn number(n: u64) {
     io::write_all(1, b" ");
@@ -27,36 +26,6 @@ fn wide(x: u32) -> u64 {
 
 fn wide8(x: u8) -> u64 {
     x as u64
-}
-
-// One octet more of a sum that every octet counts in.
-fn more(h: u64, octet: u64) -> u64 {
-    (h % 65521 * 31 + octet % 256) % 65521
-}
-
-fn more_word(h: u64, w: u32) -> u64 {
-    let x = wide(w);
-    more(more(more(more(h, x), x / 256), x / 65536), x / 16777216)
-}
-
-fn sum_octets(line: &[u8]) -> u64 {
-    let mut h: u64 = 0;
-    let mut i = 0;
-    while i < line.len() {
-        h = more(h, wide8(line[i]));
-        i += 1;
-    }
-    h
-}
-
-fn sum_words(from: u64, words: &[u32]) -> u64 {
-    let mut h = from;
-    let mut i = 0;
-    while i < words.len() {
-        h = more_word(h, words[i]);
-        i += 1;
-    }
-    h
 }
 
 // A word that the writer takes: bits 0 and 1 zero, parity even.
@@ -91,7 +60,7 @@ fn write_case(channels: u32, words: &[u32], syncs: u32, level: u32, line: &mut [
             number(wide(p));
         }
     }
-    number(sum_octets(line));
+    number(sum(line));
     end();
 }
 
@@ -99,13 +68,13 @@ fn write_case(channels: u32, words: &[u32], syncs: u32, level: u32, line: &mut [
 fn read_sum(h: u64, channels: u32, level: u32, bits: u32, line: &[u8], words: &mut [u32]) -> u64 {
     match madi_read::read_frame(channels, level, bits, line, words) {
         ReadAnswer::Read { active, syncs } => sum_words(
-            more_word(more_word(h, active), syncs),
+            with_word(with_word(h, active), syncs),
             words,
         ),
         ReadAnswer::Refused {
             number: n,
             place: p,
-        } => sum_words(more_word(more_word(h, n), p), words),
+        } => sum_words(with_word(with_word(h, n), p), words),
     }
 }
 

@@ -10,11 +10,11 @@ use crate::number;
 use crate::put_channels;
 use crate::put_syncs;
 use crate::read_some;
-use crate::sum_octets;
 use crate::sum_some;
 use crate::tell;
 use crate::turn;
 use crate::write_some;
+use cases::sum;
 
 // ---- the annex example
 
@@ -135,7 +135,7 @@ fn row_case(
     let bits = put_frame(&mut line, level, words, sent, before, between, after, 0, 0);
     io::write_all(1, b"f");
     number(bits as u64);
-    number(sum_octets(&line));
+    number(sum(&line));
     io::write_all(1, b"\n");
     read_row(channels, level, bits, &line);
 }

@@ -10,10 +10,10 @@ use Rattle.cases.proofs.sum_words.Statement.{statement}
 use Rattle.cases.proofs.sum_words.Tie as tie
 
 abbrev Inv-loop : tie.InvT-loop
-Inv-loop words sum₀ i₀ sum i = (i ≤ length words) × (over withWord sum (drop i words) ≡ over withWord 0 words)
+Inv-loop from words sum₀ i₀ sum i = (i ≤ length words) × (over withWord sum (drop i words) ≡ over withWord from words)
 
 abbrev μ-loop : tie.MeasureT-loop
-μ-loop words sum₀ i₀ sum i = length words - i
+μ-loop from words sum₀ i₀ sum i = length words - i
 
 loop-holds : tie.Need-loop-holds Inv-loop μ-loop
 loop-holds c = (search needs, refl)

@@ -21,8 +21,8 @@ next-requires c κs = search needs
 next-requires-2 : tie.Need-next-requires-2 Inv-loop μ-loop
 next-requires-2 c κs = search needs
 
-wide-requires : tie.Need-wide-requires Inv-loop μ-loop
-wide-requires c κs = search needs
+join-requires : tie.Need-join-requires Inv-loop μ-loop
+join-requires c κs = search needs
 
 sample-of-kind-requires : tie.Need-sample-of-kind-requires Inv-loop μ-loop
 sample-of-kind-requires c κs = search needs
@@ -57,7 +57,7 @@ draw-samples-spec =
     loop-holds
     next-requires
     next-requires-2
-    wide-requires
+    join-requires
     sample-of-kind-requires
     mul-t7
     slice-set-from-samples

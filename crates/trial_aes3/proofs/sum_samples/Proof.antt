@@ -23,8 +23,8 @@ shared-slice-copy-out-x c = search needs
 raised-requires : tie.Need-raised-requires Inv-loop μ-loop
 raised-requires c κs = search needs
 
-with-sample-requires : tie.Need-with-sample-requires Inv-loop μ-loop
-with-sample-requires c κs = search needs
+with-word-requires : tie.Need-with-word-requires Inv-loop μ-loop
+with-word-requires c κs = search needs
 
 add-i : tie.Need-add-i Inv-loop μ-loop
 add-i c = search needs
@@ -48,7 +48,7 @@ sum-samples-spec =
     mul-x
     shared-slice-copy-out-x
     raised-requires
-    with-sample-requires
+    with-word-requires
     add-i
     loop-less
     loop-again

@@ -33,11 +33,11 @@ loop-less c = search needs
 loop-again : tie.Need-loop-again Inv-loop μ-loop
 loop-again c = search needs
 
-slice-aggregate-sum-bodies : tie.Need-slice-aggregate-sum-bodies Inv-loop μ-loop
-slice-aggregate-sum-bodies c = search needs
+slice-aggregate-sum-words : tie.Need-slice-aggregate-sum-words Inv-loop μ-loop
+slice-aggregate-sum-words c = search needs
 
-sum-bodies-requires : tie.Need-sum-bodies-requires Inv-loop μ-loop
-sum-bodies-requires c κs = search needs
+sum-words-requires : tie.Need-sum-words-requires Inv-loop μ-loop
+sum-words-requires c κs = search needs
 
 number-requires : tie.Need-number-requires Inv-loop μ-loop
 number-requires c κs = search needs
@@ -73,8 +73,8 @@ there-spec =
     add-i
     loop-less
     loop-again
-    slice-aggregate-sum-bodies
-    sum-bodies-requires
+    slice-aggregate-sum-words
+    sum-words-requires
     number-requires
     body-at-requires-2
     cast-number

@@ -23,11 +23,11 @@ shared-slice-read-wide16 c = search needs
 wide16-requires : tie.Need-wide16-requires Inv-loop μ-loop
 wide16-requires c κs = search needs
 
-more-requires : tie.Need-more-requires Inv-loop μ-loop
-more-requires c κs = search needs
+with-octet-requires : tie.Need-with-octet-requires Inv-loop μ-loop
+with-octet-requires c κs = search needs
 
-more-requires-2 : tie.Need-more-requires-2 Inv-loop μ-loop
-more-requires-2 c κs = search needs
+with-octet-requires-2 : tie.Need-with-octet-requires-2 Inv-loop μ-loop
+with-octet-requires-2 c κs = search needs
 
 add-i : tie.Need-add-i Inv-loop μ-loop
 add-i c = search needs
@@ -51,8 +51,8 @@ sum-words-spec =
     mul-wide16
     shared-slice-read-wide16
     wide16-requires
-    more-requires
-    more-requires-2
+    with-octet-requires
+    with-octet-requires-2
     add-i
     loop-less
     loop-again
