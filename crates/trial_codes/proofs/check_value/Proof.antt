@@ -6,22 +6,16 @@ use Rattle.trial_codes.proofs.check_value.Statement.{statement}
 use Rattle.trial_codes.proofs.check_value.Tie as tie
 
 abbrev Inv-loop : tie.InvT-loop
-Inv-loop octets₀ bits₀ d₀ t4 octets bits d = (49 ≤ d) × (d ≤ 58)
+Inv-loop stages₀ d₀ t3 stages d = (49 ≤ d) × (d ≤ 58)
 
 abbrev μ-loop : tie.MeasureT-loop
-μ-loop octets₀ bits₀ d₀ t4 octets bits d = 58 - d
+μ-loop stages₀ d₀ t3 stages d = 58 - d
 
 start-requires : tie.Need-start-requires Inv-loop μ-loop
 start-requires c κs = search needs
 
-start-requires-2 : tie.Need-start-requires-2 Inv-loop μ-loop
-start-requires-2 c κs = search needs
-
 loop-holds : tie.Need-loop-holds Inv-loop μ-loop
 loop-holds c = search needs
-
-octet-requires : tie.Need-octet-requires Inv-loop μ-loop
-octet-requires c κs = search needs
 
 bit-by-bit-requires : tie.Need-bit-by-bit-requires Inv-loop μ-loop
 bit-by-bit-requires c κs = search needs
@@ -50,15 +44,6 @@ cast-number c = search needs
 number-requires : tie.Need-number-requires Inv-loop μ-loop
 number-requires c κs = search needs
 
-value-requires-2 : tie.Need-value-requires-2 Inv-loop μ-loop
-value-requires-2 c κs = search needs
-
-cast-number-2 : tie.Need-cast-number-2 Inv-loop μ-loop
-cast-number-2 c = search needs
-
-number-requires-2 : tie.Need-number-requires-2 Inv-loop μ-loop
-number-requires-2 c κs = search needs
-
 end-requires : tie.Need-end-requires Inv-loop μ-loop
 end-requires c κs = search needs
 
@@ -72,9 +57,7 @@ check-value-spec =
     Inv-loop
     μ-loop
     start-requires
-    start-requires-2
     loop-holds
-    octet-requires
     bit-by-bit-requires
     add-d
     loop-less
@@ -84,8 +67,5 @@ check-value-spec =
     value-requires
     cast-number
     number-requires
-    value-requires-2
-    cast-number-2
-    number-requires-2
     end-requires
     returns)
