@@ -1,5 +1,6 @@
 # make report      runs the report program on a file of records (RECORDS=file for another one)
-# make test        the gate: layout, the C side, then proofs, must-fail edits and programs
+# make test        layout, contracts, the C programs by themselves, then all proofs, must-fail edits and programs
+# make boundary    the C boundary: the library beside the second program, call by call, and the example driver
 # make lib         proves the library and builds target/staticlib/liblampcoil.a for C on x86-64
 # make install     puts archive, header, pkg-config file, report program and its manual page under DESTDIR and PREFIX
 # make uninstall   takes them away
@@ -10,7 +11,7 @@
 # make clean       removes what was built
 .POSIX:
 .NOTPARALLEL:
-.PHONY: report test lib program install uninstall bench expected mutants clean c-tests header second held hand listed compare card installed
+.PHONY: report test boundary lib program install uninstall bench expected mutants clean header second held hand listed compare card installed
 
 VERSION = 1.0.0
 PREFIX = /usr/local
@@ -47,14 +48,13 @@ report: program
 
 # ---- tests
 
-# The C side comes first: rt ci removes target/ and has the last word.
-test:
+# rt ci removes target/ and has the last word; what needs the archive comes after it, when the library is proved.
+test: header second held hand
 	rt fmt --check
 	tests/contracts
-	$(MAKE) c-tests
 	RT_JOBS=$(JOBS) rt ci
 
-c-tests: header second held hand lib listed compare card
+boundary: lib listed compare card
 
 # The second program under the library's names, for its own tests and for what is made from it.
 build/stand_in.o: $(SECOND) tests/second/second.h

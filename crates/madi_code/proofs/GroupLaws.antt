@@ -30,10 +30,6 @@ turned-back : (d : ℕ) → d < 16 → big (bits 4 (little (bigBits 4 d))) ≡ d
 turned-back d h =
     ap big (rw (length-bigBits 4 d) at (bits-little (bigBits 4 d))) ∙ big-bigBits 4 d ∙ mod-eq-of-lt h
 
-place-back : (x : ℕ) → x < 16 → little (bigBits 4 (big (bits 4 x))) ≡ x
-unfolding little big bits bigBits
-place-back = agree 16 (λ x. little (bigBits 4 (big (bits 4 x)))) (λ x. x) tt
-
 -- ---- the groups
 
 pub code-lt : (d : ℕ) → d < 16 → code d < 32

@@ -46,9 +46,6 @@ module _ (channels : ℕ) (words : List ℕ) (syncs level : ℕ) where
       first : digit (odd level) * 2 ^ 0 + window (levels (odd level) (frameRow channels words syncs)) 0 0 ≡ level
       first = omega (arith, digit-same level (omega arith), window-lt (levels (odd level) (frameRow channels words syncs)) 0 0)
 
-  pub level-lt : (at : ℕ) → window sent at 1 < 2
-  level-lt at = window-lt sent at 1
-
   module _ (most : length words ≤ channels) where
     length-sent : length sent ≡ suc (boundary channels syncs)
     length-sent = ap suc (length-levels (odd level) (frameRow channels words syncs) ∙ length-frame channels words syncs most)
