@@ -6,7 +6,7 @@ use lib.IntN.{ℤ}
 use lib.ListN.{length}
 use Rattle.bits.specs.Row.{digit}
 use Rattle.block.specs.Block.{samplesOf, sideOf, samplesFilled, sideFilled}
-use Rattle.block.specs.Check.{statusRight}
+use Rattle.block_check.specs.Check.{statusRight}
 use Rattle.aes3.specs.Line.{LineRead.All, LineRead.Stopped, bodiesOn}
 use Rattle.aes3.specs.Block.{blockRead, readAnswer, samplesRead, sideRead}
 use Rattle.aes3.specs.declared.ReadAnswer.the-variants.{Read, Refused}

@@ -16,12 +16,12 @@ use Rattle.bits.proofs.Tests.{both-true}
 use Rattle.bits.proofs.Digits.{digit-lt, odd-digit}
 use Rattle.line.specs.Biphase.{left}
 use Rattle.block.specs.Block.{bodiesOf, samplesOf, sideOf, blockLengths}
-use Rattle.block.specs.Check.{statusChecked, checked}
-use Rattle.block.specs.declared.BlockAnswer.{BlockAnswer}
-use Rattle.block.specs.declared.BlockAnswer.the-variants.{Sound}
-use Rattle.block.specs.declared.BlockAnswer.the-variants.{Refused as Unsound}
+use Rattle.block_check.specs.Check.{statusChecked, checked}
+use Rattle.block_check.specs.declared.BlockAnswer.{BlockAnswer}
+use Rattle.block_check.specs.declared.BlockAnswer.the-variants.{Sound}
+use Rattle.block_check.specs.declared.BlockAnswer.the-variants.{Refused as Unsound}
 use Rattle.block.proofs.BlockLaws.{length-bodies, length-samples, length-side, proper, samples-back, side-back, bodies-back}
-use Rattle.block.proofs.CheckLaws.{Passes, sound-passes, right-back, read-checked}
+use Rattle.block_check.proofs.CheckLaws.{Passes, sound-passes, right-back, read-checked}
 use Rattle.aes3.specs.Line.{lineFrom, LineRead, LineRead.All, LineRead.Stopped, levelBefore, bodiesOn}
 use Rattle.aes3.specs.Block.{blockLine, toWrite, writeAnswer, lineWritten, blockRead, toRead, readAnswer, samplesAfter, sideAfter, samplesRead, sideRead}
 use Rattle.aes3.specs.declared.WriteAnswer.{WriteAnswer}

@@ -5,9 +5,9 @@ use Prim.Native.Nat.{ℕ, _<_}
 use borrow.Author.Tests.{lt-ltb}
 use lib.IntN.{ℤ}
 use lib.ListN.{length}
-use Rattle.block.specs.Check.{checked}
-use Rattle.block.specs.declared.BlockAnswer.the-variants.{Sound}
-use Rattle.block.specs.declared.BlockAnswer.the-variants.{Refused as Unsound}
+use Rattle.block_check.specs.Check.{checked}
+use Rattle.block_check.specs.declared.BlockAnswer.the-variants.{Sound}
+use Rattle.block_check.specs.declared.BlockAnswer.the-variants.{Refused as Unsound}
 use Rattle.aes3.specs.Block.{blockLine, toWrite, writeAnswer, lineWritten}
 use Rattle.aes3.specs.declared.WriteAnswer.the-variants.{Written, Refused}
 

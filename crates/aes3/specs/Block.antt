@@ -8,10 +8,10 @@ use lib.ListN.{length}
 use Rattle.bits.specs.Pick.{pick}
 use Rattle.bits.specs.Row.{odd, digit}
 use Rattle.block.specs.Block.{bodiesOf, samplesOf, sideOf, blockLengths}
-use Rattle.block.specs.Check.{statusRight, checked}
-use Rattle.block.specs.declared.BlockAnswer.{BlockAnswer}
-use Rattle.block.specs.declared.BlockAnswer.the-variants.{Sound}
-use Rattle.block.specs.declared.BlockAnswer.the-variants.{Refused as Unsound}
+use Rattle.block_check.specs.Check.{statusRight, checked}
+use Rattle.block_check.specs.declared.BlockAnswer.{BlockAnswer}
+use Rattle.block_check.specs.declared.BlockAnswer.the-variants.{Sound}
+use Rattle.block_check.specs.declared.BlockAnswer.the-variants.{Refused as Unsound}
 use Rattle.aes3.specs.Line.{lineFrom, LineRead, LineRead.All, LineRead.Stopped, bodiesOn}
 use Rattle.aes3.specs.declared.WriteAnswer.{WriteAnswer}
 use Rattle.aes3.specs.declared.WriteAnswer.the-variants.{Written}

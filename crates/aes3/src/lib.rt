@@ -11,8 +11,8 @@ ghost use Rattle.bits.specs.Pack.{octets, symbols};
 ghost use Rattle.line.specs.Biphase.{slots, held};
 ghost use Rattle.subframe.specs.Signed.{inRange, codeOf};
 ghost use Rattle.block.specs.Block.{bodiesOf};
-ghost use Rattle.block.specs.Check.{statusRight, checked};
-ghost use Rattle.block.specs.declared.BlockAnswer.the-variants.{Sound};
+ghost use Rattle.block_check.specs.Check.{statusRight, checked};
+ghost use Rattle.block_check.specs.declared.BlockAnswer.the-variants.{Sound};
 ghost use Rattle.aes3.specs.Subframe.{due, subframeRead, subframeNumber};
 ghost use Rattle.aes3.specs.Line.{lineFrom, bodiesOn};
 ghost use Rattle.aes3.specs.Block.{blockLine, writeAnswer, lineWritten, readAnswer, samplesRead, sideRead};
@@ -20,7 +20,7 @@ ghost use Rattle.aes3.specs.Inner.{eightTable, opened, bodyWith, flagsFr
 
 mod tables;
 
-use block::BlockAnswer;
+use block_check::BlockAnswer;
 use tables::EIGHT;
 use tables::HELD;
 use tables::SPREAD;
@@ -267,7 +267,7 @@ pub fn write_block(samples: &[i32], side: &[u8], level: u32, line: &mut [u8]) ->
             place: 0,
         };
     }
-    let found = block::check_block(samples, side);
+    let found = block_check::check_block(samples, side);
     if let BlockAnswer::Refused { number, place } = found {
         return WriteAnswer::Refused { number, place };
     }
@@ -374,7 +374,7 @@ fn decode_line(line: &[u8], bodies: &mut [u32]) -> Decoded
 fn crcc(side: &[u8], channel: usize) -> u32
     ensures { λ r. ⌜ r ≡ digit (statusRight (now (side .entry)) channel) ⌝ }
 {
-    if block::status_right(side, channel) {
+    if block_check::status_right(side, channel) {
         return 1;
     }
     0

@@ -6,8 +6,8 @@ use lib.ListN.{getD}
 use lib.ListN.{length as count}
 use Rattle.bits.specs.Pick.{pick}
 use Rattle.status.specs.Meaning.{meaningOf}
-use Rattle.status.specs.Numbers.{codesOf, consumerCodes}
-use Rattle.status.specs.declared.Codes.{Codes}
+use Rattle.status_codes.specs.Numbers.{codesOf, consumerCodes}
+use Rattle.status_codes.specs.declared.Codes.{Codes}
 use Rattle.lampcoil.specs.declared.StatusMeaning.{StatusMeaning}
 
 abbrev pub statusAnswer : ℕ → Codes → StatusMeaning

@@ -38,7 +38,7 @@ pub fn body_answer(a: BodyAnswer) -> Body
     }
 }
 
-pub fn status_answer(number: u32, k: status::Codes) -> StatusMeaning
+pub fn status_answer(number: u32, k: status_codes::Codes) -> StatusMeaning
     ensures { λ r. ⌜ r ≡ statusAnswer number k ⌝ }
 {
     StatusMeaning {

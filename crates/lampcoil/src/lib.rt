@@ -162,9 +162,12 @@ pub extern "C" fn lampcoil_status_read(status: &[u8]) -> StatusMeaning
     ensures { λ r. ⌜ r ≡ statusRead (now (status .entry)) ⌝ }
 {
     if status.len() != 24 {
-        return answers::status_answer(1, status::meaning_codes(0, 0, 0));
+        return answers::status_answer(1, status_codes::meaning_codes(0, 0, 0));
     }
-    answers::status_answer(0, status::meaning_codes(status[0], status[1], status[2]))
+    answers::status_answer(
+        0,
+        status_codes::meaning_codes(status[0], status[1], status[2]),
+    )
 }
 
 #[repr(C)]

@@ -1,2 +1,1 @@
 pub mod Lossless
-pub mod LosslessNumbers

@@ -1,3 +1,2 @@
 pub mod Meaning
 pub mod Back
-pub mod Numbers

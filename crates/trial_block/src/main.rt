@@ -1,5 +1,5 @@
 // Bodies, side tables and blocks on generated cases. The file `stdout` is what tests/second/trial_block.c prints.
-use block::BlockAnswer;
+use block_check::BlockAnswer;
 use cases::draw;
 use cases::join;
 use cases::next;
@@ -275,7 +275,7 @@ fn show(samples: &[i32], side: &[u8], shown: usize, lent: usize) {
     if side.len() < lent {
         return;
     }
-    match block::check_block(&samples[..shown], &side[..lent]) {
+    match block_check::check_block(&samples[..shown], &side[..lent]) {
         BlockAnswer::Sound => {
             number(0);
             number(0);
@@ -293,9 +293,9 @@ fn back(bodies: &[u32]) {
     number(block::fill_block(bodies, &mut samples, &mut side) as u64);
     number(sum_samples(&samples));
     number(sum(&side));
-    truth(block::status_right(&side, 0));
-    truth(block::status_right(&side, 1));
-    truth(block::status_right(&side, 2));
+    truth(block_check::status_right(&side, 0));
+    truth(block_check::status_right(&side, 1));
+    truth(block_check::status_right(&side, 2));
 }
 
 fn there(samples: &[i32], side: &[u8]) {

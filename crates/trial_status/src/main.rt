@@ -1,6 +1,6 @@
 // What channel status means, in numbers, at each value of bytes 0, 1 and 2. The file `stdout` is what tests/second/trial_status.c
 // prints.
-use status::Codes;
+use status_codes::Codes;
 
 fn number(n: u32) {
     io::write_all(1, b" ");
@@ -30,7 +30,7 @@ fn case(byte0: u8, byte1: u8, byte2: u8) {
     io::print_decimal(1, byte0 as u64);
     number(byte1 as u32);
     number(byte2 as u32);
-    fields(status::meaning_codes(byte0, byte1, byte2));
+    fields(status_codes::meaning_codes(byte0, byte1, byte2));
 }
 
 // Byte 0 alone, beside bytes 1 and 2 that name something; then byte 1, and byte 2, under both purposes of professional use.

@@ -15,7 +15,7 @@ use Rattle.bits.specs.Pack.{octets}
 use Rattle.subframe.specs.Signed.{inRange, codeOf}
 use Rattle.block.specs.Block.{bodiesOf}
 use Rattle.block.proofs.BlockLaws.{length-bodies, getD-bodies}
-use Rattle.block.proofs.CheckLaws.{sound-passes}
+use Rattle.block_check.proofs.CheckLaws.{sound-passes}
 use Rattle.aes3.specs.Subframe.{due, subframe}
 use Rattle.aes3.specs.Line.{lineFrom}
 use Rattle.aes3.specs.Inner.{opened, bodyWith, flags, flagsFrom}

@@ -1,5 +1,5 @@
 use Rattle.lampcoil.specs.Status.{statusAnswer, statusRead}
-use Rattle.status.specs.Numbers.{codesOf}
+use Rattle.status_codes.specs.Numbers.{codesOf}
 use Rattle.status.specs.Meaning.{meaningOf}
 use borrow.Author.Tests.{eq-eqb, ne-eqb}
 use mathlib.Core.Path.{_∙_, ap}
@@ -9,7 +9,7 @@ use Rattle.lampcoil.proofs.lampcoil_status_read.Tie as tie
 use Rattle.lampcoil.proofs.lampcoil_status_read.Reads as reads
 use Rattle.lampcoil.proofs.lampcoil_status_read.Lts as lts
 use Rattle.lampcoil.proofs.answers.status_answer.Reads as status-answer-reads
-use Rattle.status.proofs.meaning_codes.Reads as meaning-codes-reads
+use Rattle.status_codes.proofs.meaning_codes.Reads as meaning-codes-reads
 
 -- src/lib.rt:202:33
 meaning-codes-requires : tie.Need-meaning-codes-requires
