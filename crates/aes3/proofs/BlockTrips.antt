@@ -22,16 +22,17 @@ use Rattle.block_check.specs.declared.BlockAnswer.the-variants.{Sound}
 use Rattle.block_check.specs.declared.BlockAnswer.the-variants.{Refused as Unsound}
 use Rattle.block.proofs.BlockLaws.{length-bodies, length-samples, length-side, proper, samples-back, side-back, bodies-back}
 use Rattle.block_check.proofs.CheckLaws.{Passes, sound-passes, right-back, read-checked}
-use Rattle.aes3.specs.Line.{lineFrom, LineRead, LineRead.All, LineRead.Stopped, levelBefore, bodiesOn}
-use Rattle.aes3.specs.Block.{blockLine, toWrite, writeAnswer, lineWritten, blockRead, toRead, readAnswer, samplesAfter, sideAfter, samplesRead, sideRead}
-use Rattle.aes3.specs.declared.WriteAnswer.{WriteAnswer}
-use Rattle.aes3.specs.declared.WriteAnswer.the-variants.{Written}
-use Rattle.aes3.specs.declared.WriteAnswer.the-variants.{Refused as NotWritten}
-use Rattle.aes3.specs.declared.ReadAnswer.the-variants.{Read}
+use Rattle.aes3_code.specs.Line.{lineFrom, LineRead, LineRead.All, LineRead.Stopped, levelBefore, bodiesOn}
+use Rattle.aes3_write.specs.Writer.{blockLine, toWrite, writeAnswer, lineWritten}
+use Rattle.aes3_read.specs.Reader.{blockRead, toRead, readAnswer, samplesAfter, sideAfter, samplesRead, sideRead}
+use Rattle.aes3_write.specs.declared.WriteAnswer.{WriteAnswer}
+use Rattle.aes3_write.specs.declared.WriteAnswer.the-variants.{Written}
+use Rattle.aes3_write.specs.declared.WriteAnswer.the-variants.{Refused as NotWritten}
+use Rattle.aes3_read.specs.declared.ReadAnswer.the-variants.{Read}
 use Rattle.aes3.proofs.LineTrips.{length-line, line-level, read-back, WasRead, write-back}
 use Rattle.line.specs.Polarity.{inverted}
 use Rattle.line.proofs.Inverted.{length-inverted}
-use Rattle.aes3.proofs.Polarity.{line-not}
+use Rattle.aes3_code.proofs.Polarity.{line-not}
 
 -- ---- what the writer accepts
 

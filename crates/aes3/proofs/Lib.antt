@@ -1,13 +1,2 @@
-pub mod BiphaseTables
-pub mod Writing
-pub mod LineWriting
-pub mod BlockWriting
-pub mod Reading
-pub mod Decoding
-pub mod BlockReading
-pub mod LineLaws
 pub mod LineTrips
-pub mod Bodies
-pub mod Flags
-pub mod Polarity
 pub mod BlockTrips

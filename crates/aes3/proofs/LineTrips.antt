@@ -16,12 +16,12 @@ use Rattle.line.specs.Biphase.{left}
 use Rattle.line.proofs.BiphaseLaws.{left-append}
 use Rattle.subframe.specs.Body.{Proper}
 use Rattle.subframe.proofs.BodyTrips.{proper-zero}
-use Rattle.aes3.specs.Subframe.{due, preamble, subframe, subframeRead}
-use Rattle.aes3.specs.Line.{lineFrom, LineRead, LineRead.All, LineRead.Stopped, before, bodiesFrom, levelBefore, bodiesOn}
-use Rattle.aes3.specs.declared.SubframeAnswer.{SubframeAnswer}
-use Rattle.aes3.specs.declared.SubframeAnswer.the-variants.{Body, Refused}
-use Rattle.aes3.proofs.Writing.{length-subframe}
-use Rattle.aes3.proofs.LineLaws.{read-written, read-proper, written-read, level-returns}
+use Rattle.aes3_code.specs.Subframe.{due, preamble, subframe, subframeRead}
+use Rattle.aes3_code.specs.Line.{lineFrom, LineRead, LineRead.All, LineRead.Stopped, before, bodiesFrom, levelBefore, bodiesOn}
+use Rattle.aes3_code.specs.declared.SubframeAnswer.{SubframeAnswer}
+use Rattle.aes3_code.specs.declared.SubframeAnswer.the-variants.{Body, Refused}
+use Rattle.aes3_code.proofs.Preambles.{length-subframe}
+use Rattle.aes3_code.proofs.LineLaws.{read-written, read-proper, written-read, level-returns}
 
 -- every number of a list is a body
 abbrev pub Each : List ℕ → Type 0

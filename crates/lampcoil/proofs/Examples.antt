@@ -16,7 +16,7 @@ use Rattle.subframe.specs.Body.{dataOf, withP, bodyOf, bodyWritten, bodyTold}
 use Rattle.codes.specs.Divide.{less, fed, through}
 use Rattle.codes.specs.Crcc.{sent, stagesAfter, octetOf, crccOf}
 use Rattle.codes.specs.Lane.{laneCheck}
-use Rattle.aes3.specs.Subframe.{due, preamble, subframe}
+use Rattle.aes3_code.specs.Subframe.{due, preamble, subframe}
 use Rattle.anc.specs.Word.{wordOf}
 use Rattle.hd_packet.specs.Packet.{channelOctets, withZ}
 

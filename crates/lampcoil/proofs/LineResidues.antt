@@ -14,14 +14,15 @@ use Rattle.line.specs.Nrzi.{levels}
 use Rattle.subframe.specs.Side.{sideLength}
 use Rattle.block.specs.Block.{bodiesOf, samplesOf, sideOf, blockLengths}
 use Rattle.block.proofs.BlockLaws.{length-bodies, length-samples, length-side}
-use Rattle.aes3.specs.Line.{LineRead, LineRead.All, LineRead.Stopped, bodiesOn}
-use Rattle.aes3.specs.Block.{blockLine, writeAnswer, lineAfter, lineWritten, blockRead, toRead, readAnswer, samplesAfter, sideAfter, samplesRead, sideRead}
+use Rattle.aes3_code.specs.Line.{LineRead, LineRead.All, LineRead.Stopped, bodiesOn}
+use Rattle.aes3_write.specs.Writer.{blockLine, writeAnswer, lineAfter, lineWritten}
+use Rattle.aes3_read.specs.Reader.{blockRead, toRead, readAnswer, samplesAfter, sideAfter, samplesRead, sideRead}
 use Rattle.aes3.proofs.LineTrips.{length-line}
-use Rattle.aes3.specs.declared.WriteAnswer.{WriteAnswer}
-use Rattle.aes3.specs.declared.WriteAnswer.the-variants.{Written, Refused}
-use Rattle.aes3.specs.declared.ReadAnswer.{ReadAnswer}
-use Rattle.aes3.specs.declared.ReadAnswer.the-variants.{Read}
-use Rattle.aes3.specs.declared.ReadAnswer.the-variants.{Refused as NotRead}
+use Rattle.aes3_write.specs.declared.WriteAnswer.{WriteAnswer}
+use Rattle.aes3_write.specs.declared.WriteAnswer.the-variants.{Written, Refused}
+use Rattle.aes3_read.specs.declared.ReadAnswer.{ReadAnswer}
+use Rattle.aes3_read.specs.declared.ReadAnswer.the-variants.{Read}
+use Rattle.aes3_read.specs.declared.ReadAnswer.the-variants.{Refused as NotRead}
 use Rattle.madi_write.specs.Writer.{frameRow, needed, frameOctets, writtenBy, written}
 use Rattle.madi_write.specs.Writer.{writeAnswer as frameAnswer}
 use Rattle.madi_write.specs.declared.WriteAnswer.{WriteAnswer as FrameAnswer}

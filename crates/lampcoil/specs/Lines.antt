@@ -1,7 +1,8 @@
 -- What C receives of a line: document 01's number, place and values. Assumes nothing.
-use Rattle.aes3.specs.Block.{writeTold, readTold}
-use Rattle.aes3.specs.declared.WriteAnswer.{WriteAnswer}
-use Rattle.aes3.specs.declared.ReadAnswer.{ReadAnswer}
+use Rattle.aes3_write.specs.Writer.{writeTold}
+use Rattle.aes3_read.specs.Reader.{readTold}
+use Rattle.aes3_write.specs.declared.WriteAnswer.{WriteAnswer}
+use Rattle.aes3_read.specs.declared.ReadAnswer.{ReadAnswer}
 use Rattle.hunt.specs.Hunt.{foundTold}
 use Rattle.hunt.specs.declared.Found.{Found}
 use Rattle.madi_write.specs.Writer.{writeTold as writtenTold}

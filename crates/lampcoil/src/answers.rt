@@ -97,29 +97,29 @@ pub fn lane_answer(a: LaneAnswer) -> Lane
     }
 }
 
-pub fn block_written(a: aes3::WriteAnswer) -> Verdict
+pub fn block_written(a: aes3_write::WriteAnswer) -> Verdict
     ensures { λ r. ⌜ r ≡ blockWritten a ⌝ }
 {
     match a {
-        aes3::WriteAnswer::Written => Verdict {
+        aes3_write::WriteAnswer::Written => Verdict {
             number: 0,
             place: 0,
         },
-        aes3::WriteAnswer::Refused { number, place } => Verdict { number, place },
+        aes3_write::WriteAnswer::Refused { number, place } => Verdict { number, place },
     }
 }
 
-pub fn block_read(a: aes3::ReadAnswer) -> BlockRead
+pub fn block_read(a: aes3_read::ReadAnswer) -> BlockRead
     ensures { λ r. ⌜ r ≡ blockRead a ⌝ }
 {
     match a {
-        aes3::ReadAnswer::Read { crcc_a, crcc_b } => BlockRead {
+        aes3_read::ReadAnswer::Read { crcc_a, crcc_b } => BlockRead {
             number: 0,
             place: 0,
             crcc_a,
             crcc_b,
         },
-        aes3::ReadAnswer::Refused { number, place } => BlockRead {
+        aes3_read::ReadAnswer::Refused { number, place } => BlockRead {
             number,
             place,
             crcc_a: 0,

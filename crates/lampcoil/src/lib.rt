@@ -5,7 +5,8 @@ ghost use lib.ListN.{length};
 ghost use Rattle.subframe.specs.Body.{bodyWritten, bodyRead};
 ghost use Rattle.codes.specs.Crcc.{stagesFed, sealed};
 ghost use Rattle.codes.specs.Lane.{repaired};
-ghost use Rattle.aes3.specs.Block.{writeAnswer, lineWritten, readAnswer, samplesRead, sideRead};
+ghost use Rattle.aes3_write.specs.Writer.{writeAnswer, lineWritten};
+ghost use Rattle.aes3_read.specs.Reader.{readAnswer, samplesRead, sideRead};
 ghost use Rattle.hunt.specs.Hunt.{hunted};
 ghost use Rattle.madi_write.specs.Writer.{written};
 ghost use Rattle.madi_write.specs.Writer.{writeAnswer as frameAnswer};
@@ -228,7 +229,7 @@ pub extern "C" fn lampcoil_aes3_write(
     ensures { λ r. ⌜ r ≡ blockWritten (writeAnswer (now (samples .entry)) (now (side .entry)) level (length (now (line .entry)))) ⌝ }
     ensures { λ _. ⌜ now (line .exit) ≡ lineWritten (now (samples .entry)) (now (side .entry)) level (now (line .entry)) ⌝ }
 {
-    answers::block_written(aes3::write_block(samples, side, level, line))
+    answers::block_written(aes3_write::write_block(samples, side, level, line))
 }
 
 #[repr(C)]
@@ -246,7 +247,7 @@ pub extern "C" fn lampcoil_aes3_read(line: &[u8], samples: &mut [i32], side: &mu
     ensures { λ _. ⌜ now (samples .exit) ≡ samplesRead (now (line .entry)) (now (samples .entry)) (length (now (side .entry))) ⌝ }
     ensures { λ _. ⌜ now (side .exit) ≡ sideRead (now (line .entry)) (length (now (samples .entry))) (now (side .entry)) ⌝ }
 {
-    answers::block_read(aes3::read_block(line, samples, side))
+    answers::block_read(aes3_read::read_block(line, samples, side))
 }
 
 #[repr(C)]

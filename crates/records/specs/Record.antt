@@ -4,10 +4,10 @@ use mathlib.Core.List.{List, [], _∷_}
 use lib.Dec.{eqb, ltb}
 use lib.ListN.{length, getD, drop}
 use Rattle.bits.specs.Pick.{pick}
-use Rattle.aes3.specs.Block.{readAnswer}
-use Rattle.aes3.specs.declared.ReadAnswer.{ReadAnswer as BlockRead}
-use Rattle.aes3.specs.declared.ReadAnswer.the-variants.{Read as BlockIs}
-use Rattle.aes3.specs.declared.ReadAnswer.the-variants.{Refused as NoBlock}
+use Rattle.aes3_read.specs.Reader.{readAnswer}
+use Rattle.aes3_read.specs.declared.ReadAnswer.{ReadAnswer as BlockRead}
+use Rattle.aes3_read.specs.declared.ReadAnswer.the-variants.{Read as BlockIs}
+use Rattle.aes3_read.specs.declared.ReadAnswer.the-variants.{Refused as NoBlock}
 use Rattle.hd_read.specs.Read.{readAnswer as packetAnswer}
 use Rattle.hd_read.specs.declared.ReadAnswer.{ReadAnswer as PacketRead}
 use Rattle.hd_read.specs.declared.ReadAnswer.the-variants.{Read as PacketIs}

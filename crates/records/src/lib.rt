@@ -37,15 +37,15 @@ fn no_words() -> [u32; 256]
     [0; 256]
 }
 
-fn of_block(answer: aes3::ReadAnswer) -> Outcome
+fn of_block(answer: aes3_read::ReadAnswer) -> Outcome
     ensures { λ r. ⌜ r ≡ ofBlock answer ⌝ }
 {
     match answer {
-        aes3::ReadAnswer::Read { crcc_a, crcc_b } => Outcome::Aes3 {
+        aes3_read::ReadAnswer::Read { crcc_a, crcc_b } => Outcome::Aes3 {
             a: crcc_a,
             b: crcc_b,
         },
-        aes3::ReadAnswer::Refused { number, place } => Outcome::Refused { number, place },
+        aes3_read::ReadAnswer::Refused { number, place } => Outcome::Refused { number, place },
     }
 }
 
@@ -55,7 +55,7 @@ fn block(line: &[u8]) -> Outcome
 {
     let mut samples = no_samples();
     let mut side = no_side();
-    of_block(aes3::read_block(line, &mut samples, &mut side))
+    of_block(aes3_read::read_block(line, &mut samples, &mut side))
 }
 
 fn wide(x: u8) -> u32

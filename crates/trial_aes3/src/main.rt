@@ -1,6 +1,6 @@
 // Blocks written, changed and read, on generated cases. The file `stdout` is what tests/second/trial_aes3.c prints.
-use aes3::ReadAnswer;
-use aes3::WriteAnswer;
+use aes3_read::ReadAnswer;
+use aes3_write::WriteAnswer;
 use cases::join;
 use cases::next;
 use cases::octet;
@@ -172,7 +172,7 @@ fn prepare(side: &mut [u8], kind: u32) {
 
 fn write(samples: &[i32], side: &[u8], level: u32, line: &mut [u8]) {
     io::write_all(1, b" write");
-    match aes3::write_block(samples, side, level, line) {
+    match aes3_write::write_block(samples, side, level, line) {
         WriteAnswer::Written => {
             number(0);
             number(0);
@@ -187,7 +187,7 @@ fn write(samples: &[i32], side: &[u8], level: u32, line: &mut [u8]) {
 
 fn read(line: &[u8], samples: &mut [i32], side: &mut [u8]) {
     io::write_all(1, b" read");
-    match aes3::read_block(line, samples, side) {
+    match aes3_read::read_block(line, samples, side) {
         ReadAnswer::Read { crcc_a, crcc_b } => {
             number(0);
             number(0);

@@ -5,7 +5,7 @@ use Rattle.lampcoil.proofs.lampcoil_aes3_read.Statement.{statement}
 use Rattle.lampcoil.proofs.lampcoil_aes3_read.Tie as tie
 use Rattle.lampcoil.proofs.lampcoil_aes3_read.Reads as reads
 use Rattle.lampcoil.proofs.lampcoil_aes3_read.Lts as lts
-use Rattle.aes3.proofs.read_block.Reads as read-block-reads
+use Rattle.aes3_read.proofs.read_block.Reads as read-block-reads
 use Rattle.lampcoil.proofs.answers.block_read.Reads as block-read-reads
 
 -- src/lib.rt:343:16

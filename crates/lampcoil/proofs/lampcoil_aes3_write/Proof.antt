@@ -5,7 +5,7 @@ use Rattle.lampcoil.proofs.lampcoil_aes3_write.Statement.{statement}
 use Rattle.lampcoil.proofs.lampcoil_aes3_write.Tie as tie
 use Rattle.lampcoil.proofs.lampcoil_aes3_write.Reads as reads
 use Rattle.lampcoil.proofs.lampcoil_aes3_write.Lts as lts
-use Rattle.aes3.proofs.write_block.Reads as write-block-reads
+use Rattle.aes3_write.proofs.write_block.Reads as write-block-reads
 use Rattle.lampcoil.proofs.answers.block_written.Reads as block-written-reads
 
 -- src/lib.rt:306:19

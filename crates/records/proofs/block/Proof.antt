@@ -1,7 +1,7 @@
 -- `records::block` meets its contract. Assumes nothing.
 use mathlib.Core.Path.{ap, ap₂, _∙_}
 use Prim.Native.Nat.{ℕ}
-use Rattle.aes3.specs.Block.{readAnswer}
+use Rattle.aes3_read.specs.Reader.{readAnswer}
 use Rattle.records.specs.Record.{ofBlock, blockOutcome}
 use borrow.Author.Needs.{needs}
 use Rattle.records.proofs.block.Statement.{statement}

@@ -1,4 +1,0 @@
-pub mod Subframe
-pub mod Line
-pub mod Block
-pub mod Inner

@@ -1,0 +1,3 @@
+pub mod Preambles
+pub mod LineLaws
+pub mod Polarity

@@ -1,0 +1,4 @@
+pub mod HeldTable
+pub mod Reading
+pub mod Decoding
+pub mod BlockReading

@@ -1,0 +1,57 @@
+-- `aes3_read::read_word` meets its contract: at each return the tests say which answer it is. Assumes nothing.
+use borrow.Author.Needs.{needs}
+use mathlib.Core.Path.{sym, _∙_}
+use native.Mathlib.Omega.{arith}
+use Rattle.aes3_read.proofs.Reading.{answer-7, answer-8, answer-9, answer-body}
+use Rattle.aes3_read.proofs.read_word.Statement.{statement}
+use Rattle.aes3_read.proofs.read_word.Tie as tie
+
+due-octet-requires : tie.Need-due-octet-requires
+due-octet-requires c κs = search needs
+
+cast-if1 : tie.Need-cast-if1
+cast-if1 c = search needs
+
+returns : tie.Need-returns
+returns c =
+    let due = c .before in
+    let a = due .before .before .args in
+    answer-7 (a .i) (a .w) (omega arith) (λ e. c .if1 .taken (e ∙ sym (due .due-octet .ensures)))
+
+returns-2 : tie.Need-returns-2
+returns-2 c =
+    let due = c .before .before in
+    let a = due .before .before .args in
+    answer-8 (a .i) (a .w) (omega arith) (c .before .if1 .left ∙ due .due-octet .ensures) (c .if2 .taken)
+
+returns-3 : tie.Need-returns-3
+returns-3 c =
+    let due = c .before .before .before in
+    let a = due .before .before .args in
+    answer-9 (a .i) (a .w) (omega arith) (c .before .before .if1 .left ∙ due .due-octet .ensures) (c .before .if2 .left) (c .if3 .taken)
+
+read-slots-requires : tie.Need-read-slots-requires
+read-slots-requires c κs = search needs
+
+mul-t10 : tie.Need-mul-t10
+mul-t10 c = search needs
+
+returns-4 : tie.Need-returns-4
+returns-4 c =
+    let due = c .before .before .before .before in
+    let a = due .before .before .args in
+    answer-body (a .i) (a .w) (omega arith) (c .before .before .before .if1 .left ∙ due .due-octet .ensures) (c .before .before .if2 .left) (c .read-slots .result) (c .read-slots .ensures .0)
+    (c .before .if3 .left)
+
+pub read-word-spec : {M : Type 1} → statement M
+read-word-spec =
+    tie.close
+    (tie.spec
+    due-octet-requires
+    cast-if1
+    returns
+    returns-2
+    returns-3
+    read-slots-requires
+    mul-t10
+    returns-4)

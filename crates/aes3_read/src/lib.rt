@@ -1,0 +1,169 @@
+// Reading a block from an AES3 line: 3,072 octets as 384 samples and a side table.
+ghost use mathlib.Core.Path.{_≡_};
+ghost use mathlib.Core.Bool.{false};
+ghost use Prim.Native.Nat.{_<_};
+ghost use lib.ListN.{length};
+ghost use Rattle.bits.specs.Row.{odd, digit, bigBits, little};
+ghost use Rattle.bits.specs.Pack.{symbols};
+ghost use Rattle.line.specs.Biphase.{held};
+ghost use Rattle.block_check.specs.Check.{statusRight};
+ghost use Rattle.aes3_code.specs.Subframe.{subframeRead, subframeNumber};
+ghost use Rattle.aes3_code.specs.Line.{bodiesOn};
+ghost use Rattle.aes3_read.specs.Reader.{readAnswer, samplesRead, sideRead};
+ghost use Rattle.aes3_read.specs.Inner.{heldTable, decoded};
+
+mod tables;
+
+use aes3_code::SubframeAnswer;
+use tables::HELD;
+
+// What reading a block answers: for each channel 1 where its CRCC is right, else 0; or a refusal.
+pub enum ReadAnswer {
+    Read { crcc_a: u32, crcc_b: u32 },
+    Refused { number: u32, place: u32 },
+}
+
+// All subframes of a line read, or the first refusal.
+pub enum Decoded {
+    Whole,
+    Refused { number: u32, place: u32 },
+}
+
+// The four bits that the slots of an octet hold.
+fn four(table: &[u8], o: u8) -> u32
+    requires { ⌜ now table ≡ heldTable ⌝ }
+    ensures { λ r. ⌜ (r ≡ little (held (bigBits 8 o))) × (r < 16) ⌝ }
+{
+    table[o as usize] as u32
+}
+
+// The 28 bits that slots 4 to 31 of a subframe's 64 symbols hold.
+fn read_slots(table: &[u8], w: u64) -> u32
+    requires { ⌜ now table ≡ heldTable ⌝ }
+    ensures { λ r. ⌜ (r ≡ little (held (bigBits 56 w))) × (r < 268435456) ⌝ }
+{
+    let a = four(table, (w / 0x1_0000_0000_0000 % 256) as u8);
+    let b = four(table, (w / 0x100_0000_0000 % 256) as u8);
+    let c = four(table, (w / 0x1_0000_0000 % 256) as u8);
+    let d = four(table, (w / 0x100_0000 % 256) as u8);
+    let e = four(table, (w / 0x1_0000 % 256) as u8);
+    let f = four(table, (w / 256 % 256) as u8);
+    let g = four(table, (w % 256) as u8);
+    a + b * 16 + c * 256 + d * 4096 + e * 65536 + f * 1048576 + g * 16777216
+}
+
+// 64 symbols read as subframe i after level 0.
+fn read_word(table: &[u8], i: usize, w: u64) -> SubframeAnswer
+    requires { ⌜ now table ≡ heldTable ⌝ }
+    ensures { λ r. ⌜ r ≡ subframeRead i false (bigBits 64 w) ⌝ }
+{
+    if w / 0x100_0000_0000_0000 != aes3_code::due_octet(i) as u64 {
+        return SubframeAnswer::Refused(7);
+    }
+    // a change at the first symbol of every slot
+    if (w ^ (w / 2)) & 0xAA_AAAA_AAAA_AAAA != 0xAA_AAAA_AAAA_AAAA {
+        return SubframeAnswer::Refused(8);
+    }
+    // an even number of ones leaves the level as it was
+    if w % 2 != 0 {
+        return SubframeAnswer::Refused(9);
+    }
+    SubframeAnswer::Body(read_slots(table, w) * 16)
+}
+
+// Eight octets read as subframe i after a level.
+fn read_subframe(table: &[u8], i: usize, level: u32, part: &[u8]) -> SubframeAnswer
+    requires { ⌜ (now table ≡ heldTable) × (level < 2) × (length (now part) ≡ 8) ⌝ }
+    ensures { λ r. ⌜ r ≡ subframeRead i (odd level) (symbols (now (part .entry))) ⌝ }
+{
+    read_word(table, i, aes3_code::turned(level, line::word(part, 0)))
+}
+
+// The number of a subframe's answer; 0 for a body.
+fn number(answer: SubframeAnswer) -> u32
+    ensures { λ r. ⌜ r ≡ subframeNumber answer ⌝ }
+{
+    match answer {
+        SubframeAnswer::Body(_) => 0,
+        SubframeAnswer::Refused(n) => n,
+    }
+}
+
+// All subframes of a line, their bodies into a buffer; after a refusal the buffer holds those before it. A subframe that is accepted
+// leaves the level as it was.
+fn decode(table: &[u8], line: &[u8], bodies: &mut [u32]) -> Decoded
+    requires { ⌜ (now table ≡ heldTable) × (length (now line) ≡ 3072) × (length (now bodies) ≡ 384) ⌝ }
+    ensures { λ r. ⌜ decoded r (now (bodies .exit)) ≡ bodiesOn (now (line .entry)) ⌝ }
+{
+    let level = 1 - line[0] as u32 / 128;
+    let mut i: usize = 0;
+    while i < 384 {
+        let a = i * 8;
+        let e = a + 8;
+        let answer = read_subframe(table, i, level, &line[a..e]);
+        let SubframeAnswer::Body(b) = answer else {
+            return Decoded::Refused {
+                number: number(answer),
+                place: i as u32,
+            };
+        };
+        bodies[i] = b;
+        i += 1;
+    }
+    Decoded::Whole
+}
+
+// The same with the table laid out.
+fn decode_line(line: &[u8], bodies: &mut [u32]) -> Decoded
+    requires { ⌜ (length (now line) ≡ 3072) × (length (now bodies) ≡ 384) ⌝ }
+    ensures { λ r. ⌜ decoded r (now (bodies .exit)) ≡ bodiesOn (now (line .entry)) ⌝ }
+{
+    let table = HELD;
+    decode(&table, line, bodies)
+}
+
+// 1 where the CRCC of a channel is right, else 0.
+fn crcc(side: &[u8], channel: usize) -> u32
+    ensures { λ r. ⌜ r ≡ digit (statusRight (now (side .entry)) channel) ⌝ }
+{
+    if block_check::status_right(side, channel) {
+        return 1;
+    }
+    0
+}
+
+// Reads a block into samples and side table, and says whether the CRCC of each channel is right. A refusal leaves both buffers as they were.
+pub fn read_block(line: &[u8], samples: &mut [i32], side: &mut [u8]) -> ReadAnswer
+    ensures { λ r. ⌜ r ≡ readAnswer (now (line .entry)) (length (now (samples .entry))) (length (now (side .entry))) ⌝ }
+    ensures { λ _. ⌜ now (samples .exit) ≡ samplesRead (now (line .entry)) (now (samples .entry)) (length (now (side .entry))) ⌝ }
+    ensures { λ _. ⌜ now (side .exit) ≡ sideRead (now (line .entry)) (length (now (samples .entry))) (now (side .entry)) ⌝ }
+{
+    if line.len() != 3072 {
+        return ReadAnswer::Refused {
+            number: 1,
+            place: 0,
+        };
+    }
+    if samples.len() != 384 {
+        return ReadAnswer::Refused {
+            number: 1,
+            place: 0,
+        };
+    }
+    if side.len() != 144 {
+        return ReadAnswer::Refused {
+            number: 1,
+            place: 0,
+        };
+    }
+    let mut bodies = [0u32; 384];
+    let got = decode_line(line, &mut bodies);
+    if let Decoded::Refused { number, place } = got {
+        return ReadAnswer::Refused { number, place };
+    }
+    block::fill_block(&bodies, samples, side);
+    ReadAnswer::Read {
+        crcc_a: crcc(side, 0),
+        crcc_b: crcc(side, 1),
+    }
+}

@@ -1,0 +1,41 @@
+-- Clauses that only inner functions need. Assumes nothing.
+use Prim.Native.Nat.{ℕ, zero, suc, _+_, _*_, _%_, _^_}
+use mathlib.Core.Bool.{Bool, false}
+use mathlib.Core.List.{List, _++_}
+use Rattle.bits.specs.Row.{Row, bit, bits, bigBits, big}
+use Rattle.bits.specs.Listed.{listed}
+use Rattle.line.specs.Preamble.{afterLevel}
+use Rattle.line.specs.Biphase.{slots}
+use Rattle.subframe.specs.Body.{bodyOf}
+use Rattle.subframe.specs.Body.{slots as slotsOf}
+use Rattle.subframe.specs.Side.{validity, user, status}
+use Rattle.block.specs.Block.{sideAt}
+
+-- the sixteen symbols of the eight bits of each octet, lowest first, after level 0
+unfoldable pub eightTable : List ℕ
+eightTable = listed 0 256 (λ d. big (slots false (bits 8 d)))
+
+-- the 64 symbols of a body behind the octet m of a preamble, after a level
+unfoldable pub opened : ℕ → Bool → ℕ → Row
+opened m l body = afterLevel l (bigBits 8 m ++ slots false (slotsOf body))
+
+-- the body of 27 bits: a sample's 24, then V, U and C
+unfoldable pub bodyWith : ℕ → ℕ
+bodyWith x = bodyOf (x % 2 ^ 24) (bit 24 x) (bit 25 x) (bit 26 x)
+
+-- V, U and C of subframe i
+unfoldable pub flags : List ℕ → ℕ → ℕ
+flags side i = sideAt side validity i + sideAt side user i * 2 + sideAt side status i * 4
+
+-- those of n subframes from subframe i on, the first at weight 1, the next at 16
+unfoldable pub flagsFrom : List ℕ → ℕ → ℕ → ℕ
+flagsFrom side i zero = 0
+flagsFrom side i (suc n) = flags side i + 16 * flagsFrom side (suc i) n
+
+-- the bits of an octet at weights 1, 2^8, 2^16 and so on
+unfoldable pub spread : ℕ → ℕ
+spread o = bit 0 o + bit 1 o * 2 ^ 8 + bit 2 o * 2 ^ 16 + bit 3 o * 2 ^ 24 + bit 4 o * 2 ^ 32 + bit 5 o * 2 ^ 40 + bit 6 o * 2 ^ 48 + bit 7 o * 2 ^ 56
+
+-- the same of each number below 16
+unfoldable pub spreadTable : List ℕ
+spreadTable = listed 0 16 (λ x. bit 0 x + bit 1 x * 2 ^ 8 + bit 2 x * 2 ^ 16 + bit 3 x * 2 ^ 24)
