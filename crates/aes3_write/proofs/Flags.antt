@@ -13,7 +13,7 @@ use Rattle.bits.proofs.Every.{agree}
 use Rattle.bits.proofs.Lists.{length-listed, getD-listed}
 use Rattle.subframe.specs.Signed.{inRange, codeOf}
 use Rattle.subframe.proofs.SignedLaws.{code-lt}
-use Rattle.subframe.proofs.SideLaws.{side-lt, side-in}
+use Rattle.side.proofs.SideLaws.{side-lt, side-in}
 use Rattle.subframe.proofs.BodyTrips.{written-in}
 use Rattle.block.specs.Block.{sideAt, bodyAt}
 use Rattle.block.proofs.BlockLaws.{body-told}

@@ -8,7 +8,7 @@ use Rattle.line.specs.Preamble.{afterLevel}
 use Rattle.line.specs.Biphase.{slots}
 use Rattle.subframe.specs.Body.{bodyOf}
 use Rattle.subframe.specs.Body.{slots as slotsOf}
-use Rattle.subframe.specs.Side.{validity, user, status}
+use Rattle.side.specs.Side.{validity, user, status}
 use Rattle.block.specs.Block.{sideAt}
 
 -- the sixteen symbols of the eight bits of each octet, lowest first, after level 0

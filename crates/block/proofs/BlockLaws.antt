@@ -16,11 +16,11 @@ use Rattle.bits.proofs.Digits.{digit-odd, odd-mod}
 use Rattle.bits.proofs.Lists.{length-listed, getD-listed, listed-all, length-joined, getD-joined}
 use Rattle.subframe.specs.Signed.{inRange, codeOf}
 use Rattle.subframe.specs.Body.{Proper, bodyOf, bodyWritten, bodyTold, sampleOf}
-use Rattle.subframe.specs.Side.{columns, sideLength, sideBit, columnIn, columnOf}
+use Rattle.side.specs.Side.{columns, sideLength, sideBit, columnIn, columnOf}
 use Rattle.subframe.specs.declared.BodyAnswer.{BodyAnswer}
 use Rattle.subframe.specs.declared.BodyAnswer.the-variants.{Body, Refused}
 use Rattle.subframe.proofs.BodyTrips.{written-in, written-proper, proper-zero, read-written, Accepted, accepted, write-fields}
-use Rattle.subframe.proofs.SideLaws.{side-lt, side-in, column-at, row-column, column-read, getD-columnIn, length-column}
+use Rattle.side.proofs.SideLaws.{side-lt, side-in, column-at, row-column, column-read, getD-columnIn, length-column}
 use Rattle.block.specs.Block.{sideAt, bodyAt, bodiesOf, samplesOf, fieldRow, sideOf}
 
 -- every sample is one of 24 bits

@@ -10,7 +10,7 @@ use Rattle.bits.specs.Pick.{pick}
 use Rattle.bits.specs.Row.{Row, odd}
 use Rattle.bits.specs.Listed.{listed, joined}
 use Rattle.subframe.specs.Body.{bodyWritten, bodyTold, sampleOf}
-use Rattle.subframe.specs.Side.{validity, user, status, columns, sideLength, sideBit, columnOf}
+use Rattle.side.specs.Side.{validity, user, status, columns, sideLength, sideBit, columnOf}
 
 -- ---- from samples and side table to bodies
 

@@ -2,18 +2,18 @@
 ghost use mathlib.Core.Path.{_≡_};
 ghost use Prim.Native.Nat.{_*_, _<_};
 ghost use lib.ListN.{length};
-ghost use Rattle.subframe.specs.Side.{columns, sideLength};
+ghost use Rattle.side.specs.Side.{columns, sideLength};
 ghost use Rattle.block.specs.Block.{sideAt, bodyGiven, samplesOf, sideOf, fillNumber, samplesFilled, sideFilled};
 ghost use Rattle.block.specs.Inner.{threeBits, apartTable, threeOctets, channelSide};
 
 mod tables;
 
 use subframe::BodyAnswer;
-use subframe::C;
-use subframe::COLUMNS;
-use subframe::SIDE;
-use subframe::U;
-use subframe::V;
+use side::C;
+use side::COLUMNS;
+use side::SIDE;
+use side::U;
+use side::V;
 use tables::APART;
 
 // ---- from samples and side table to bodies

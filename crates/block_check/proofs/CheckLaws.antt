@@ -19,7 +19,7 @@ use Rattle.bits.proofs.Tests.{pick-cases, both-true, no-yes, order}
 use Rattle.bits.proofs.Firsts.{first-cases}
 use Rattle.codes.specs.Crcc.{crccRight}
 use Rattle.subframe.specs.Signed.{inRange}
-use Rattle.subframe.specs.Side.{sideLength}
+use Rattle.side.specs.Side.{sideLength}
 use Rattle.subframe.proofs.BodyTrips.{sample-in}
 use Rattle.block.specs.Block.{blockLengths, samplesOf, sideOf}
 use Rattle.block_check.specs.Check.{statusOf, statusRight, outside, consumer, wrong, unmarked, statusChecked, checked}

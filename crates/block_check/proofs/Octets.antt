@@ -13,8 +13,8 @@ use Rattle.bits.specs.Row.{digit, odd, bit}
 use Rattle.bits.proofs.Digits.{odd-digit}
 use Rattle.bits.proofs.Every.{agree}
 use Rattle.bits.proofs.Places.{some, some-split, some-same}
-use Rattle.subframe.specs.Side.{columns, sideBit}
-use Rattle.subframe.proofs.SideLaws.{side-in}
+use Rattle.side.specs.Side.{columns, sideBit}
+use Rattle.side.proofs.SideLaws.{side-in}
 
 -- the bit of a frame in column k is 0
 abbrev pub noV : List ℕ → ℕ → ℕ → Bool

@@ -11,7 +11,7 @@ use Rattle.bits.specs.Pick.{pick, first}
 use Rattle.bits.specs.Row.{bit}
 use Rattle.codes.specs.Crcc.{crccRight}
 use Rattle.subframe.specs.Signed.{inRange}
-use Rattle.subframe.specs.Side.{validity, status, columns, sideLength, sideBit, columnIn}
+use Rattle.side.specs.Side.{validity, status, columns, sideLength, sideBit, columnIn}
 use Rattle.block.specs.Block.{blockLengths}
 use Rattle.block_check.specs.declared.BlockAnswer.{BlockAnswer}
 use Rattle.block_check.specs.declared.BlockAnswer.the-variants.{Sound, Refused}

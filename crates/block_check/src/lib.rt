@@ -7,12 +7,12 @@ ghost use Rattle.bits.specs.Pick.{first};
 ghost use Rattle.bits.specs.Row.{digit, count};
 ghost use Rattle.bits.specs.Listed.{listed};
 ghost use Rattle.subframe.specs.Signed.{inRange};
-ghost use Rattle.subframe.specs.Side.{sideLength};
+ghost use Rattle.side.specs.Side.{sideLength};
 ghost use Rattle.block_check.specs.Check.{statusOf, statusRight, outside, consumer, wrong, someValid, unmarked, statusChecked, checked};
-use subframe::C;
-use subframe::COLUMNS;
-use subframe::SIDE;
-use subframe::V;
+use side::C;
+use side::COLUMNS;
+use side::SIDE;
+use side::V;
 
 // What checking a block answers.
 pub enum BlockAnswer {

@@ -11,7 +11,7 @@ use Rattle.bits.specs.Row.{odd, big}
 use Rattle.bits.proofs.Tests.{pick-cases, both-true, no-yes}
 use Rattle.bits.proofs.Packing.{length-pack}
 use Rattle.line.specs.Nrzi.{levels}
-use Rattle.subframe.specs.Side.{sideLength}
+use Rattle.side.specs.Side.{sideLength}
 use Rattle.block.specs.Block.{bodiesOf, samplesOf, sideOf, blockLengths}
 use Rattle.block.proofs.BlockLaws.{length-bodies, length-samples, length-side}
 use Rattle.aes3_code.specs.Line.{LineRead, LineRead.All, LineRead.Stopped, bodiesOn}

@@ -171,7 +171,7 @@ fn fill_part(column: &mut [u8], octets: usize, drawn: &[u8], frames: usize) {
     if drawn.len() < frames {
         return;
     }
-    let n = subframe::fill_column(&mut column[..octets], &drawn[..frames]);
+    let n = side::fill_column(&mut column[..octets], &drawn[..frames]);
     number(n as u64);
 }
 
@@ -182,8 +182,8 @@ fn column_case(seed: u32, octets: usize, frames: usize) -> u32 {
     io::write_all(1, b"column");
     fill_part(&mut column, octets, &drawn, frames);
     number(sum(&column));
-    number(subframe::side_bit(&drawn, octets % 8, frames) as u64);
-    number(subframe::side_bit(&drawn, frames % 6, octets % 31 * 5) as u64);
+    number(side::side_bit(&drawn, octets % 8, frames) as u64);
+    number(side::side_bit(&drawn, frames % 6, octets % 31 * 5) as u64);
     end();
     x
 }

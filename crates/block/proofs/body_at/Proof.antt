@@ -10,7 +10,7 @@ use lib.ListN.{length, getD, List·getD-eq-default}
 use mir.Syntax.{w32}
 use mir.Facts.{toZ-ofZ}
 use Rattle.subframe.specs.Body.{bodyWritten, bodyTold}
-use Rattle.subframe.specs.Side.{sideLength}
+use Rattle.side.specs.Side.{sideLength}
 use Rattle.subframe.specs.declared.BodyAnswer.{BodyAnswer}
 use Rattle.block.specs.Block.{bodyAt, bodiesOf, bodyGiven}
 use Rattle.block.proofs.BlockLaws.{length-bodies, getD-bodies, body-told}

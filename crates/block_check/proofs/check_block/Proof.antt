@@ -10,7 +10,7 @@ use lib.IntN.{ℤ}
 use lib.ListN.{length}
 use Rattle.bits.specs.Pick.{pick, first}
 use Rattle.bits.proofs.Places.{first-where}
-use Rattle.subframe.specs.Side.{sideLength}
+use Rattle.side.specs.Side.{sideLength}
 use Rattle.block_check.specs.Check.{outside, statusChecked, checked}
 use Rattle.block_check.specs.declared.BlockAnswer.the-variants.{Refused}
 use Rattle.block_check.proofs.check_block.Statement.{statement}

@@ -4,7 +4,7 @@ use mathlib.Core.List.{List}
 use Prim.Native.Nat.{ℕ, _+_, _-_, _*_, _≤_, _<_}
 use native.Mathlib.Omega.{arith}
 use Rattle.bits.proofs.Places.{some}
-use Rattle.subframe.specs.Side.{validity, columns}
+use Rattle.side.specs.Side.{validity, columns}
 use Rattle.block_check.specs.Check.{someValid}
 use Rattle.block_check.proofs.Octets.{noV, octet-one, octet-none, none-left}
 use Rattle.block_check.proofs.has_valid.Statement.{statement}

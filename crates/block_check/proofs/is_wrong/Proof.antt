@@ -6,7 +6,7 @@ use Prim.Native.Nat.{ℕ, _<_}
 use borrow.Author.Needs.{needs}
 use borrow.Author.Tests.{eq-eqb, lt-ltb}
 use lib.ListN.{length}
-use Rattle.subframe.specs.Side.{sideLength}
+use Rattle.side.specs.Side.{sideLength}
 use Rattle.block_check.specs.Check.{statusRight, wrong}
 use Rattle.block_check.proofs.is_wrong.Statement.{statement}
 use Rattle.block_check.proofs.is_wrong.Tie as tie

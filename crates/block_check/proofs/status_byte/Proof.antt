@@ -5,8 +5,8 @@ use native.Mathlib.Nat.{add-zero}
 use native.Mathlib.Omega.{arith}
 use borrow.Author.Needs.{needs}
 use lib.ListN.{getD}
-use Rattle.subframe.specs.Side.{columns}
-use Rattle.subframe.proofs.SideLaws.{getD-columnIn}
+use Rattle.side.specs.Side.{columns}
+use Rattle.side.proofs.SideLaws.{getD-columnIn}
 use Rattle.block_check.specs.Check.{statusOf}
 use Rattle.block_check.proofs.status_byte.Statement.{statement}
 use Rattle.block_check.proofs.status_byte.Tie as tie

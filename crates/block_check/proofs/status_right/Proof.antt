@@ -6,7 +6,7 @@ use borrow.Author.Needs.{needs}
 use borrow.Author.Tests.{eq-eqb, ne-eqb, lt-ltb, le-ltb}
 use lib.ListN.{take, drop}
 use Rattle.codes.specs.Crcc.{crccRight}
-use Rattle.subframe.specs.Side.{columns, columnIn}
+use Rattle.side.specs.Side.{columns, columnIn}
 use Rattle.block_check.specs.Check.{statusOf, statusRight}
 use Rattle.block_check.proofs.status_right.Statement.{statement}
 use Rattle.block_check.proofs.status_right.Tie as tie
