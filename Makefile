@@ -19,7 +19,7 @@ DESTDIR =
 RECORDS = examples/desk.rec
 
 # Crates and edits that are tried at a time: more than a small machine has processors, since each batch waits for its slowest.
-JOBS = 4
+JOBS = 8
 
 CC = cc
 CFLAGS = -std=c11 -O2 -Wall -Wextra -Werror -pedantic

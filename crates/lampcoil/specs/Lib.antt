@@ -3,4 +3,3 @@ pub mod Codes
 pub mod Status
 pub mod Lines
 pub mod Packets
-pub mod Residue

@@ -34,8 +34,8 @@ use Rattle.madi_read.specs.declared.ReadAnswer.the-variants.{Read as FrameRead}
 use Rattle.madi_read.specs.declared.ReadAnswer.the-variants.{Refused as NoFrame}
 use Rattle.madi.proofs.Accepting.{accepted}
 use Rattle.madi.proofs.CountsStood.{counts-stood}
-use Rattle.lampcoil.specs.Residue.{NoResidue}
-use Rattle.lampcoil.proofs.Residues.{no-residue, whole-buffer}
+use Rattle.residue.specs.Residue.{NoResidue}
+use Rattle.residue.proofs.Residues.{no-residue, whole-buffer}
 
 -- ---- AES3, writing
 

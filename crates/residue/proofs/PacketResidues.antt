@@ -25,8 +25,8 @@ use Rattle.hd_repair.specs.declared.RepairAnswer.{RepairAnswer}
 use Rattle.hd_repair.specs.declared.RepairAnswer.the-variants.{Repaired}
 use Rattle.hd_repair.specs.declared.RepairAnswer.the-variants.{Refused as NotRepaired}
 use Rattle.hd.proofs.Written.{os, length-os}
-use Rattle.lampcoil.specs.Residue.{NoResidue}
-use Rattle.lampcoil.proofs.Residues.{whole-buffer}
+use Rattle.residue.specs.Residue.{NoResidue}
+use Rattle.residue.proofs.Residues.{whole-buffer}
 
 -- ---- writing
 

@@ -7,7 +7,7 @@ use mathlib.Core.List.{List, [], _++_, append-nil}
 use native.Mathlib.Omega.{arith}
 use lib.ListN.{length, take, drop, drop-of-length-le}
 use lib.Seq.{take-at, drop-at}
-use Rattle.lampcoil.specs.Residue.{NoResidue}
+use Rattle.residue.specs.Residue.{NoResidue}
 
 module _ {A X : Type 0} (accepted : A → Bool) (answer : ℕ → A) (written : List X) (after : List X → List X)
     (on-acceptance : (b : List X) → accepted (answer (length b)) ≡ true → after b ≡ written ++ drop (length written) b)
