@@ -79,7 +79,10 @@ fn write_subframe(table: &[u16], m: u64, level: u32, word: u32, part: &mut [u8])
     requires { ⌜ (now table ≡ eightTable) × (m < 256) × (level < 2) × (word < 134217728) × (length (now part) ≡ 8) ⌝ }
     ensures { λ _. ⌜ now (part .exit) ≡ octets 8 (opened m (odd level) (bodyWith word)) ⌝ }
 {
-    lay(aes3_code::turned(level, subframe_word(table, m, word)), part);
+    lay(
+        aes3_code::turned(level, subframe_word(table, m, word)),
+        part,
+    );
 }
 
 // A frame into sixteen octets: m opens its first subframe, Y its second.

@@ -8,12 +8,12 @@ ghost use Rattle.block.specs.Inner.{threeBits, apartTable, threeOctets, 
 
 mod tables;
 
-use subframe::BodyAnswer;
 use side::C;
 use side::COLUMNS;
 use side::SIDE;
 use side::U;
 use side::V;
+use subframe::BodyAnswer;
 use tables::APART;
 
 // ---- from samples and side table to bodies

@@ -3,6 +3,7 @@ use mathlib.Core.Path.{_≡_, refl, sym, ap, _∙_}
 use mathlib.Core.Bool.{true, false, not, _&&_}
 use mathlib.Core.List.{List, [], _∷_, _++_}
 use Prim.Native.Nat.{ℕ, zero, suc, _-_, _/_, _%_, _^_, _≤_, _<_}
+use native.Mathlib.Nat.{add-zero}
 use native.Mathlib.Omega.{arith}
 use borrow.Author.Tests.{eq-eqb, ne-eqb, leb-true}
 use lib.Dec.{eqb, leb}
@@ -17,7 +18,7 @@ use Rattle.subframe.proofs.BodyLaws.{count-slots}
 use Rattle.bits.proofs.Places.{first-place, first-nowhere}
 use Rattle.hd_lanes.specs.Lanes.{checkOctets, withChecks}
 use Rattle.hd_lanes.proofs.CheckLaws.{length-checks}
-use Rattle.hd_packet.specs.Packet.{did, channelOctets, dataOctets}
+use Rattle.hd_packet.specs.Packet.{did, channelOctets, withZ, dataOctets}
 use Rattle.hd_packet.specs.Inner.{packetLaid}
 use Rattle.hd_write.specs.declared.WriteAnswer.{WriteAnswer}
 use Rattle.hd_write.specs.declared.WriteAnswer.the-variants.{Written, Refused}
@@ -76,6 +77,12 @@ did-octet (suc (suc zero)) h l = refl
 did-octet (suc (suc (suc zero))) h l = refl
 did-octet (suc (suc (suc (suc zero)))) h l = refl
 did-octet (suc (suc (suc (suc (suc n))))) h l = absurd (omega arith)
+
+-- ---- a channel without Z
+
+pub no-z : (b : ℕ) → withZ 0 (channelOctets b) ≡ channelOctets b
+unfolding channelOctets
+no-z b = rw add-zero
 
 -- ---- the answer, test by test
 

@@ -1,10 +1,11 @@
 // The writer of HD audio data packets.
 ghost use mathlib.Core.Path.{_≡_};
 ghost use mathlib.Core.List.{[], _∷_, _++_};
+ghost use Prim.Native.Nat.{_≤_};
 ghost use lib.ListN.{length, replicate};
-ghost use Rattle.hd_packet.specs.Packet.{dataOctets};
+ghost use Rattle.hd_packet.specs.Packet.{channelOctets, withZ, dataOctets};
 ghost use Rattle.hd_write.specs.Write.{inRanges, writeAnswer, wordsWritten};
-ghost use Rattle.hd_write.specs.Inner.{Ranges, firstOdd, firstLow};
+ghost use Rattle.hd_write.specs.Inner.{Ranges, listed, firstOdd, firstLow};
 
 // What writing answers: the packet stands in the words, or document 01's number and place.
 pub enum WriteAnswer {
@@ -65,7 +66,28 @@ fn first_low(bodies: &[u32]) -> usize
     i
 }
 
-// Words 0 to 23, with room for the check words.
+// The octets of a channel's four words.
+pub struct Channel {
+    pub first: u8,
+    pub second: u8,
+    pub third: u8,
+    pub fourth: u8,
+}
+
+// Those of a body, with Z in b3 of the first.
+fn of_body(body: u32, z: u32) -> Channel
+    requires { ⌜ z ≤ 1 ⌝ }
+    ensures { λ r. ⌜ listed r ≡ withZ z (channelOctets body) ⌝ }
+{
+    Channel {
+        first: (body / 16 % 16 * 16 + z * 8) as u8,
+        second: (body / 256 % 256) as u8,
+        third: (body / 65536 % 256) as u8,
+        fourth: (body / 16777216 % 256) as u8,
+    }
+}
+
+// Words 0 to 23, with room for the check words. The first channel of each pair has its Z.
 fn lay_data(
     group: u32,
     dbn: u32,
@@ -81,6 +103,10 @@ fn lay_data(
     requires { ⌜ Ranges group dbn phase ck12 z1 z2 ⌝ }
     ensures { λ r. ⌜ r ≡ dataOctets group dbn phase ck12 z1 z2 (a ∷ b ∷ c ∷ d ∷ []) ++ replicate 6 0 ⌝ }
 {
+    let w = of_body(a, z1);
+    let x = of_body(b, 0);
+    let y = of_body(c, z2);
+    let z = of_body(d, 0);
     [
         0,
         255,
@@ -90,22 +116,22 @@ fn lay_data(
         24,
         (phase % 256) as u8,
         (phase / 256 + ck12 * 16) as u8,
-        (a / 16 % 16 * 16 + z1 * 8) as u8,
-        (a / 256 % 256) as u8,
-        (a / 65536 % 256) as u8,
-        (a / 16777216 % 256) as u8,
-        (b / 16 % 16 * 16) as u8,
-        (b / 256 % 256) as u8,
-        (b / 65536 % 256) as u8,
-        (b / 16777216 % 256) as u8,
-        (c / 16 % 16 * 16 + z2 * 8) as u8,
-        (c / 256 % 256) as u8,
-        (c / 65536 % 256) as u8,
-        (c / 16777216 % 256) as u8,
-        (d / 16 % 16 * 16) as u8,
-        (d / 256 % 256) as u8,
-        (d / 65536 % 256) as u8,
-        (d / 16777216 % 256) as u8,
+        w.first,
+        w.second,
+        w.third,
+        w.fourth,
+        x.first,
+        x.second,
+        x.third,
+        x.fourth,
+        y.first,
+        y.second,
+        y.third,
+        y.fourth,
+        z.first,
+        z.second,
+        z.third,
+        z.fourth,
         0,
         0,
         0,
