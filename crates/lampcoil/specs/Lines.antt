@@ -7,8 +7,8 @@ use Rattle.hunt.specs.Hunt.{foundTold}
 use Rattle.hunt.specs.declared.Found.{Found}
 use Rattle.madi_write.specs.Writer.{writeTold as writtenTold}
 use Rattle.madi_write.specs.declared.WriteAnswer.{WriteAnswer as FrameAnswer}
-use Rattle.madi_read.specs.Reader.{readTold as frameTold}
-use Rattle.madi_read.specs.declared.ReadAnswer.{ReadAnswer as FrameReadAnswer}
+use Rattle.madi_piece.specs.Reader.{readTold as frameTold}
+use Rattle.madi_piece.specs.declared.ReadAnswer.{ReadAnswer as FrameReadAnswer}
 use Rattle.lampcoil.specs.declared.Verdict.{Verdict}
 use Rattle.lampcoil.specs.declared.BlockRead.{BlockRead}
 use Rattle.lampcoil.specs.declared.BlockStart.{BlockStart}

@@ -157,17 +157,17 @@ pub fn frame_written(a: madi_write::WriteAnswer) -> Verdict
     }
 }
 
-pub fn frame_read(a: madi_read::ReadAnswer) -> FrameRead
+pub fn frame_read(a: madi_piece::ReadAnswer) -> FrameRead
     ensures { λ r. ⌜ r ≡ frameRead a ⌝ }
 {
     match a {
-        madi_read::ReadAnswer::Read { active, syncs } => FrameRead {
+        madi_piece::ReadAnswer::Read { active, syncs } => FrameRead {
             number: 0,
             place: 0,
             active,
             syncs,
         },
-        madi_read::ReadAnswer::Refused { number, place } => FrameRead {
+        madi_piece::ReadAnswer::Refused { number, place } => FrameRead {
             number,
             place,
             active: 0,

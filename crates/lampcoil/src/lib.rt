@@ -10,7 +10,7 @@ ghost use Rattle.aes3_read.specs.Reader.{readAnswer, samplesRead, sideRead};
 ghost use Rattle.hunt.specs.Hunt.{hunted};
 ghost use Rattle.madi_write.specs.Writer.{written};
 ghost use Rattle.madi_write.specs.Writer.{writeAnswer as frameAnswer};
-ghost use Rattle.madi_read.specs.Reader.{readFrame, answerOf, wordsOf};
+ghost use Rattle.madi_piece.specs.Reader.{readFrame, answerOf, wordsOf};
 ghost use Rattle.hd_write.specs.Write.{wordsWritten};
 ghost use Rattle.hd_write.specs.Write.{writeAnswer as packetAnswer};
 ghost use Rattle.hd_read.specs.Read.{bodiesRead};

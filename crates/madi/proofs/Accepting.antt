@@ -10,7 +10,7 @@ use lib.ListN.{length}
 use Rattle.bits.specs.Window.{window}
 use Rattle.bits.specs.Pack.{symbols}
 use Rattle.bits.proofs.Tests.{pick-cases, both-true}
-use Rattle.madi_read.specs.Reader.{carried, inRange, spareZero, Reading, taken, refused, readRow, readFrame}
+use Rattle.madi_piece.specs.Reader.{carried, inRange, spareZero, Reading, taken, refused, readRow, readFrame}
 use Rattle.madi_read.proofs.Admitting.{Ranged, ranged}
 
 pub record Accepted (channels level bits : ℕ) (line : List ℕ) (slots a s : ℕ) (ws : List ℕ) : Type 0 where

@@ -9,9 +9,9 @@ use Rattle.bits.specs.Cross.{across}
 use Rattle.bits.proofs.Rows.{length-bigBits}
 use Rattle.madi_code.specs.Groups.{sync}
 use Rattle.madi_code.specs.Channels.{channelRow}
-use Rattle.madi_code.specs.Frame.{boundary}
+use Rattle.madi_frame.specs.Frame.{boundary}
 use Rattle.madi_code.proofs.ChannelLaws.{length-channel}
-use Rattle.madi_read.specs.Reader.{carried, taken, cleared, readFrame}
+use Rattle.madi_piece.specs.Reader.{carried, taken, cleared, readFrame}
 use Rattle.madi_read.proofs.Carrying.{length-carried}
 use Rattle.madi.specs.Units.{Units, end, sync-next, channel-next}
 use Rattle.madi.proofs.Accepting.{accepted}

@@ -17,7 +17,7 @@ use Rattle.bits.proofs.Windows.{length-part, getD-part, part-same, part-all, wi
 use Rattle.bits.proofs.Packing.{length-chain, highest, length-pack, getD-pack, symbols-octets, octets-symbols}
 use Rattle.line.specs.Nrzi.{levels, changes}
 use Rattle.line.proofs.NrziLaws.{length-levels, changes-levels, levels-changes}
-use Rattle.madi_read.specs.Reader.{carried}
+use Rattle.madi_piece.specs.Reader.{carried}
 
 -- past its end a part has zeros, and so has a row
 part-bit : (r : Row) (n k : ℕ) → k < n → getD (part r 0 n) k false ≡ getD r k false

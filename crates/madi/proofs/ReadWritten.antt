@@ -18,10 +18,10 @@ use Rattle.bits.proofs.Packing.{length-pack}
 use Rattle.line.specs.Nrzi.{levels}
 use Rattle.madi_code.specs.Groups.{sync}
 use Rattle.madi_code.specs.Channels.{channelRow}
-use Rattle.madi_code.specs.Frame.{boundary}
+use Rattle.madi_frame.specs.Frame.{boundary}
 use Rattle.madi_code.proofs.ChannelLaws.{channel-back, channel-no-sync}
-use Rattle.madi_read.specs.Reader.{carried, pieceAt, taken, readFrom, readRow, readFrame}
-use Rattle.madi_read.specs.declared.Piece.the-variants.{End, Sync, Slot}
+use Rattle.madi_piece.specs.Reader.{carried, pieceAt, taken, readFrom, readRow, readFrame}
+use Rattle.madi_piece.specs.declared.Piece.the-variants.{End, Sync, Slot}
 use Rattle.madi_read.proofs.Walking.{read-step}
 use Rattle.madi_write.specs.Writer.{frameRow, needed, frameOctets, writeAnswer}
 use Rattle.madi_write.specs.Inner.{sentWord, syncsNumber}

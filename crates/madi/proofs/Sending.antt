@@ -13,9 +13,9 @@ use lib.Seq.{getD-append-add}
 use Rattle.bits.specs.Pick.{pick}
 use Rattle.bits.specs.Row.{bit, bits, even, count, Below}
 use Rattle.subframe.specs.Body.{slots}
-use Rattle.madi_code.specs.Frame.{evenBody}
-use Rattle.madi_read.specs.Reader.{firstRight, activeRight, slotOf, cleared}
-use Rattle.madi_read.specs.declared.Piece.the-variants.{Slot}
+use Rattle.madi_frame.specs.Frame.{evenBody}
+use Rattle.madi_piece.specs.Reader.{firstRight, activeRight, slotOf, cleared}
+use Rattle.madi_piece.specs.declared.Piece.the-variants.{Slot}
 use Rattle.madi_write.specs.Inner.{sentWord}
 use Rattle.madi_write.proofs.Checks.{Clean}
 use Rattle.madi.specs.Units.{padded}

@@ -14,12 +14,12 @@ use Rattle.bits.proofs.Rows.{bigBits-big}
 use Rattle.bits.proofs.Windows.{length-part, part-in}
 use Rattle.madi_code.specs.Groups.{sync}
 use Rattle.madi_code.specs.Channels.{channelOf}
-use Rattle.madi_code.specs.Frame.{evenBody, boundary}
+use Rattle.madi_frame.specs.Frame.{evenBody, boundary}
 use Rattle.madi_code.specs.declared.Channel.the-variants.{Word}
 use Rattle.madi_code.proofs.ChannelLaws.{channel-only}
-use Rattle.madi_read.specs.Reader.{firstRight, activeRight, pieceAt, taken, refused, cleared, next, readFrom, readRow}
-use Rattle.madi_read.specs.declared.Piece.{Piece}
-use Rattle.madi_read.specs.declared.Piece.the-variants.{End, Sync, Slot, Bad}
+use Rattle.madi_piece.specs.Reader.{firstRight, activeRight, pieceAt, taken, refused, cleared, next, readFrom, readRow}
+use Rattle.madi_piece.specs.declared.Piece.{Piece}
+use Rattle.madi_piece.specs.declared.Piece.the-variants.{End, Sync, Slot, Bad}
 use Rattle.madi_read.proofs.Walking.{Room, room}
 use Rattle.madi.specs.Units.{Units, end, sync-next, channel-next}
 

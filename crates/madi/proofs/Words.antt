@@ -12,8 +12,8 @@ use Rattle.bits.specs.Pick.{pick}
 use Rattle.bits.specs.Row.{odd, bit, digit, count}
 use Rattle.bits.specs.Cross.{across}
 use Rattle.bits.proofs.Digits.{digit-odd}
-use Rattle.madi_code.specs.Frame.{evenBody}
-use Rattle.madi_read.specs.Reader.{cleared}
+use Rattle.madi_frame.specs.Frame.{evenBody}
+use Rattle.madi_piece.specs.Reader.{cleared}
 use Rattle.madi_write.specs.Writer.{marked}
 use Rattle.madi.proofs.Standing.{Slots}
 use Rattle.madi.proofs.Sending.{even-same}

@@ -14,8 +14,8 @@ use Rattle.bits.specs.Cross.{across}
 use Rattle.bits.proofs.Counts.{count-le}
 use Rattle.bits.proofs.Crossing.{length-across}
 use Rattle.line.specs.Nrzi.{levels}
-use Rattle.madi_code.specs.Frame.{counted, evenBody, boundary}
-use Rattle.madi_read.specs.Reader.{carried, taken, cleared, readFrame}
+use Rattle.madi_frame.specs.Frame.{counted, evenBody, boundary}
+use Rattle.madi_piece.specs.Reader.{carried, taken, cleared, readFrame}
 use Rattle.madi_read.proofs.Carrying.{length-carried}
 use Rattle.madi_write.specs.Writer.{marked, channelWords, frameRow, needed, frameOctets, writeAnswer, written, writtenBy}
 use Rattle.madi_write.specs.declared.WriteAnswer.{WriteAnswer}

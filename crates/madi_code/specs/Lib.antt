@@ -1,4 +1,3 @@
 pub mod Groups
 pub mod Channels
-pub mod Frame
 pub mod Inner

@@ -7,10 +7,10 @@ use native.Mathlib.Omega.{arith}
 use borrow.Author.Tests.{leb-true}
 use lib.Dec.{leb}
 use Rattle.bits.proofs.Tests.{both-true}
-use Rattle.madi_code.proofs.FrameLaws.{counted-le}
-use Rattle.madi_code.specs.Frame.{counted}
-use Rattle.madi_read.specs.Reader.{inRange, Reading, taken, refused, answerOf}
-use Rattle.madi_read.specs.declared.ReadAnswer.the-variants.{Read, Refused}
+use Rattle.madi_frame.proofs.FrameLaws.{counted-le}
+use Rattle.madi_frame.specs.Frame.{counted}
+use Rattle.madi_piece.specs.Reader.{inRange, Reading, taken, refused, answerOf}
+use Rattle.madi_piece.specs.declared.ReadAnswer.the-variants.{Read, Refused}
 
 pub record Ranged (channels level bits : ℕ) : Type 0 where
   pub counts : counted channels ≡ true

@@ -17,12 +17,12 @@ use Rattle.line.specs.Nrzi.{changes}
 use Rattle.line.proofs.NrziLaws.{changes-window, before-later}
 use Rattle.madi_code.specs.Groups.{sync}
 use Rattle.madi_code.specs.Channels.{channelRow, channelOf}
-use Rattle.madi_code.specs.Frame.{boundary}
+use Rattle.madi_frame.specs.Frame.{boundary}
 use Rattle.madi_code.specs.declared.Channel.the-variants.{Word}
 use Rattle.madi_code.proofs.ChannelLaws.{channel-only, groups-all, channel-no-sync}
-use Rattle.madi_read.specs.Reader.{pieceAt}
+use Rattle.madi_piece.specs.Reader.{pieceAt}
 use Rattle.madi_read.specs.Inner.{Plain, Reached}
-use Rattle.madi_read.specs.declared.Piece.the-variants.{Sync, Slot}
+use Rattle.madi_piece.specs.declared.Piece.the-variants.{Sync, Slot}
 use Rattle.madi_read.proofs.Walking.{read-step}
 
 -- the lowest n digits of a number against itself moved by one go by its lowest n + 1

@@ -13,12 +13,12 @@ use Rattle.bits.specs.Window.{part, window}
 use Rattle.bits.proofs.Tests.{pick-cases, both-true}
 use Rattle.madi_code.specs.Groups.{sync}
 use Rattle.madi_code.specs.Channels.{channelOf}
-use Rattle.madi_code.specs.Frame.{evenBody, boundary}
+use Rattle.madi_frame.specs.Frame.{evenBody, boundary}
 use Rattle.madi_code.specs.declared.Channel.{Channel}
 use Rattle.madi_code.specs.declared.Channel.the-variants.{Word, Broken}
-use Rattle.madi_read.specs.Reader.{firstRight, activeRight, slotAt, isSync, pieceAt, next, readFrom}
-use Rattle.madi_read.specs.declared.Piece.{Piece}
-use Rattle.madi_read.specs.declared.Piece.the-variants.{End, Sync, Slot, Bad}
+use Rattle.madi_piece.specs.Reader.{firstRight, activeRight, slotAt, isSync, pieceAt, next, readFrom}
+use Rattle.madi_piece.specs.declared.Piece.{Piece}
+use Rattle.madi_piece.specs.declared.Piece.the-variants.{End, Sync, Slot, Bad}
 
 -- what each piece says of where it stands
 abbrev pub Room : Row → ℕ → ℕ → ℕ → ℕ → Piece → Type 0

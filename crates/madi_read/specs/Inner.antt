@@ -8,11 +8,11 @@ use Rattle.bits.specs.Pick.{pick}
 use Rattle.bits.specs.Row.{Row}
 use Rattle.bits.specs.Window.{part}
 use Rattle.madi_code.specs.Channels.{channelOf}
-use Rattle.madi_code.specs.Frame.{evenBody}
+use Rattle.madi_frame.specs.Frame.{evenBody}
 use Rattle.madi_code.specs.declared.Channel.the-variants.{Word}
-use Rattle.madi_read.specs.Reader.{Reading, taken, refused, isSync, syncOf, readFrom}
-use Rattle.madi_read.specs.declared.Piece.{Piece}
-use Rattle.madi_read.specs.declared.Piece.the-variants.{Bad}
+use Rattle.madi_piece.specs.Reader.{Reading, taken, refused, isSync, syncOf, readFrom}
+use Rattle.madi_piece.specs.declared.Piece.{Piece}
+use Rattle.madi_piece.specs.declared.Piece.the-variants.{Bad}
 
 -- what stands at a boundary with fewer than 40 bits after it
 abbrev pub shortPiece : Row → ℕ → ℕ → Piece

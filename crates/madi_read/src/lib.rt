@@ -9,25 +9,13 @@ ghost use Rattle.bits.specs.Window.{window};
 ghost use Rattle.bits.specs.Pack.{symbols};
 ghost use Rattle.line.specs.Nrzi.{changes};
 ghost use Rattle.madi_code.specs.Groups.{sync};
-ghost use Rattle.madi_code.specs.Frame.{boundary};
-ghost use Rattle.madi_code.specs.Inner.{Octets};
-ghost use Rattle.madi_read.specs.Reader.{carried, firstRight, activeRight, slotOf, endOf, syncOf, pieceAt, readRow, readFrame, answerOf, wordsOf, inRange, spareZero};
+ghost use Rattle.madi_frame.specs.Frame.{boundary};
+ghost use Rattle.madi_tables.specs.Inner.{Octets};
+ghost use Rattle.madi_piece.specs.Reader.{carried, pieceAt, readRow, readFrame, answerOf, wordsOf, spareZero};
 ghost use Rattle.madi_read.specs.Inner.{Held, shortPiece, Plain, Reached};
 use madi_code::Channel;
-
-// What stands at a boundary of a frame.
-pub enum Piece {
-    End,
-    Sync,
-    Slot(u32),
-    Bad { number: u32, place: u32 },
-}
-
-// What reading a frame answers: how many channels are active and how many syncs came, or a refusal's number and place.
-pub enum ReadAnswer {
-    Read { active: u32, syncs: u32 },
-    Refused { number: u32, place: u32 },
-}
+use madi_piece::Piece;
+use madi_piece::ReadAnswer;
 
 // The level before bit `at` of the line and the n levels from there on, as a number.
 fn levels_at(line: &[u8], level: u32, at: usize, n: usize) -> u64
@@ -50,74 +38,6 @@ fn bits_at(line: &[u8], level: u32, at: usize, n: usize) -> u64
     (v ^ (v / 2)) % (1u64 << n)
 }
 
-// Bit 0 is set on channel 0 only.
-fn first_right(n: u32, w: u32) -> bool
-    ensures { λ r. ⌜ r ≡ firstRight n w ⌝ }
-{
-    if n == 0 {
-        return w % 2 == 1;
-    }
-    w % 2 == 0
-}
-
-// An active channel follows the active ones without a gap; an inactive one is all zero.
-fn active_right(n: u32, active: u32, w: u32) -> bool
-    ensures { λ r. ⌜ r ≡ activeRight n active w ⌝ }
-{
-    if w / 2 % 2 == 1 {
-        return n == active;
-    }
-    w == 0
-}
-
-// A channel's word in its place: its required bits, then its parity.
-fn slot_of(n: u32, active: u32, w: u32) -> Piece
-    ensures { λ r. ⌜ r ≡ slotOf n active w ⌝ }
-{
-    if first_right(n, w) {
-        if active_right(n, active, w) {
-            if madi_code::is_even(w) {
-                return Piece::Slot(w);
-            }
-            return Piece::Bad {
-                number: 9,
-                place: n,
-            };
-        }
-    }
-    Piece::Bad {
-        number: 12,
-        place: n,
-    }
-}
-
-// The end of a frame: all channels and a sync.
-fn end_of(channels: u32, n: u32, s: u32, at: u32) -> Piece
-    ensures { λ r. ⌜ r ≡ endOf channels n s at ⌝ }
-{
-    if n == channels {
-        if 0 < s {
-            return Piece::End;
-        }
-    }
-    Piece::Bad {
-        number: 10,
-        place: at,
-    }
-}
-
-fn sync_of(s: u32, at: u32) -> Piece
-    ensures { λ r. ⌜ r ≡ syncOf s at ⌝ }
-{
-    if s < 255 {
-        return Piece::Sync;
-    }
-    Piece::Bad {
-        number: 10,
-        place: at,
-    }
-}
-
 // What stands where fewer than 40 bits are left, and at least one: a sync, or no whole unit.
 fn short_piece(line: &[u8], level: u32, bits: u32, s: u32, at: u32) -> Piece
     requires { ⌜ (level ≤ 1) × (bits ≤ 5110) × (bits ≤ length (now line) * 8) × (at < bits) ⌝ }
@@ -125,7 +45,7 @@ fn short_piece(line: &[u8], level: u32, bits: u32, s: u32, at: u32) -> Piece
 {
     if at + 10 <= bits {
         if bits_at(line, level, at as usize, 10) == 0b1100010001 {
-            return sync_of(s, at);
+            return madi_piece::sync_of(s, at);
         }
     }
     Piece::Bad {
@@ -150,14 +70,14 @@ fn piece_at(
 {
     let at = 40 * n + 10 * s;
     if at == bits {
-        return end_of(channels, n, s, at);
+        return madi_piece::end_of(channels, n, s, at);
     }
     if bits < at + 40 {
         return short_piece(line, level, bits, s, at);
     }
     let v = bits_at(line, level, at as usize, 40);
     if v / 0x4000_0000 == 0b1100010001 {
-        return sync_of(s, at);
+        return madi_piece::sync_of(s, at);
     }
     if n == channels {
         return Piece::Bad {
@@ -165,9 +85,9 @@ fn piece_at(
             place: at,
         };
     }
-    let c = madi_code::channel_by(table, v);
+    let c = madi_lookup::channel_by(table, v);
     match c {
-        Channel::Word(w) => slot_of(n, active, w),
+        Channel::Word(w) => madi_piece::slot_of(n, active, w),
         Channel::Broken(g) => Piece::Bad {
             number: 11,
             place: at + 5 * g,
@@ -200,9 +120,9 @@ fn plain(table: &[u16; 1024], line: &[u8], j: usize) -> u32
     ensures { λ r. ⌜ (0 < r → (level bits : ℕ) → bits ≤ length (now (line .entry)) * 8 → j * 8 + 40 ≤ bits → Plain (carried level bits (now (line .entry))) (j * 8) r) ⌝ }
 {
     let x = three(line, j - 1) * 0x100_0000 + three(line, j + 2);
-    let w = madi_code::word_by(table, (x ^ (x / 2)) % 0x100_0000_0000);
+    let w = madi_lookup::word_by(table, (x ^ (x / 2)) % 0x100_0000_0000);
     if w % 4 == 2 {
-        if madi_code::is_even(w as u32) {
+        if madi_frame::is_even(w as u32) {
             return w as u32;
         }
     }
@@ -288,7 +208,7 @@ fn walk(line: &[u8], level: u32, channels: u32, bits: u32, held: &mut [u32]) -> 
     ensures { λ r. ⌜ r ≡ answerOf (readRow (carried level bits (now (line .entry))) channels) ⌝ }
     ensures { λ r. ⌜ Held channels (readRow (carried level bits (now (line .entry))) channels) (now (held .exit)) ⌝ }
 {
-    let table = madi_code::octets();
+    let table = madi_tables::octets();
     let mut n: u32 = 0;
     let mut active: u32 = 0;
     let mut s: u32 = 0;
@@ -306,7 +226,7 @@ fn walk(line: &[u8], level: u32, channels: u32, bits: u32, held: &mut [u32]) -> 
                 s += 1;
             }
             Piece::Slot(w) => {
-                held[n as usize] = w - w % 4;
+                held[n as usize] = madi_piece::cleared(w);
                 active += w / 2 % 2;
                 n += 1;
             }
@@ -315,30 +235,6 @@ fn walk(line: &[u8], level: u32, channels: u32, bits: u32, held: &mut [u32]) -> 
             }
         }
     }
-}
-
-// As many words as dst takes.
-fn copy(src: &[u32], dst: &mut [u32])
-    requires { ⌜ length (now dst) ≤ length (now src) ⌝ }
-    ensures { λ r. ⌜ now (dst .exit) ≡ take (length (now (dst .entry))) (now (src .entry)) ⌝ }
-{
-    let mut i = 0;
-    while i < dst.len() {
-        dst[i] = src[i];
-        i += 1;
-    }
-}
-
-// Whether the numbers handed to the reader are in their ranges.
-fn in_range(channels: u32, level: u32, bits: u32) -> bool
-    ensures { λ r. ⌜ r ≡ inRange channels level bits ⌝ }
-{
-    if madi_code::is_counted(channels) {
-        if level <= 1 {
-            return bits <= 5110;
-        }
-    }
-    false
 }
 
 // Whether the unused bits of the last octet are 0.
@@ -359,7 +255,7 @@ fn read_checked(channels: u32, level: u32, bits: u32, line: &[u8], words: &mut [
     let answer = walk(line, level, channels, bits, &mut held);
     match answer {
         ReadAnswer::Read { active, syncs } => {
-            copy(&held, words);
+            madi_piece::copy(&held, words);
             ReadAnswer::Read { active, syncs }
         }
         ReadAnswer::Refused { number, place } => ReadAnswer::Refused { number, place },
@@ -377,7 +273,7 @@ pub fn read_frame(
     ensures { λ r. ⌜ r ≡ answerOf (readFrame channels level bits (now (line .entry)) (length (now (words .entry)))) ⌝ }
     ensures { λ r. ⌜ now (words .exit) ≡ wordsOf (readFrame channels level bits (now (line .entry)) (length (now (words .entry)))) (now (words .entry)) ⌝ }
 {
-    if in_range(channels, level, bits) {
+    if madi_piece::in_range(channels, level, bits) {
         if line.len() == (bits as usize + 7) / 8 {
             if words.len() == channels as usize {
                 if spare_zero(bits, line) {

@@ -15,8 +15,8 @@ use Rattle.subframe.specs.Body.{slots}
 use Rattle.madi_write.specs.Inner.{Sound}
 use Rattle.bits.proofs.Tests.{pick-cases, both-true, no-yes, order}
 use Rattle.bits.proofs.Firsts.{first-cases}
-use Rattle.madi_code.proofs.FrameLaws.{counted-le}
-use Rattle.madi_code.specs.Frame.{counted, evenBody}
+use Rattle.madi_frame.proofs.FrameLaws.{counted-le}
+use Rattle.madi_frame.specs.Frame.{counted, evenBody}
 use Rattle.madi_write.specs.Writer.{needed, inRange, clear, wordsAnswer, writeAnswer}
 use Rattle.madi_write.specs.declared.WriteAnswer.{WriteAnswer}
 use Rattle.madi_write.specs.declared.WriteAnswer.the-variants.{Written, Refused}

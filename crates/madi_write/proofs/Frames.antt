@@ -20,7 +20,7 @@ use Rattle.bits.proofs.Every.{agree}
 use Rattle.bits.proofs.Chains.{part-first, part-second, length-chained, part-chained}
 use Rattle.madi_code.specs.Groups.{sync}
 use Rattle.madi_code.specs.Channels.{channelRow}
-use Rattle.madi_code.specs.Frame.{boundary}
+use Rattle.madi_frame.specs.Frame.{boundary}
 use Rattle.madi_code.proofs.ChannelLaws.{length-channel}
 use Rattle.madi_write.specs.Writer.{marked, channelWords, frameRow}
 use Rattle.madi_write.specs.Inner.{sentWord, syncsNumber, blockOf}

@@ -10,7 +10,7 @@ use Rattle.bits.specs.Pick.{pick}
 use Rattle.bits.specs.Row.{big}
 use Rattle.madi_code.specs.Groups.{sync}
 use Rattle.madi_code.specs.Channels.{channelRow}
-use Rattle.madi_code.specs.Frame.{evenBody}
+use Rattle.madi_frame.specs.Frame.{evenBody}
 
 -- the word of channel b as it is sent
 unfoldable pub sentWord : List ℕ → ℕ → ℕ

@@ -10,7 +10,7 @@ use Rattle.bits.specs.Pack.{chain, octets}
 use Rattle.line.specs.Nrzi.{levels}
 use Rattle.madi_code.specs.Groups.{sync}
 use Rattle.madi_code.specs.Channels.{channelRow}
-use Rattle.madi_code.specs.Frame.{counted, evenBody, boundary}
+use Rattle.madi_frame.specs.Frame.{counted, evenBody, boundary}
 use Rattle.madi_write.specs.declared.WriteAnswer.{WriteAnswer}
 use Rattle.madi_write.specs.declared.WriteAnswer.the-variants.{Written, Refused}
 

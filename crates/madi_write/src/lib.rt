@@ -7,7 +7,7 @@ ghost use Rattle.madi_write.specs.Writer.{needed, frameOctets, inRange, 
 ghost use Rattle.madi_write.specs.Inner.{sentWord, blockOf, Levels, Stored, Sound};
 ghost use Rattle.bits.specs.Row.{big};
 ghost use Rattle.madi_code.specs.Channels.{channelRow};
-ghost use Rattle.madi_code.specs.Inner.{Pairs};
+ghost use Rattle.madi_tables.specs.Inner.{Pairs};
 
 // What writing a frame answers: that it is written, or a refusal's number and place.
 pub enum WriteAnswer {
@@ -38,7 +38,7 @@ fn block(table: &[u16; 256], idle: u64, channels: usize, words: &[u32], b: usize
     ensures { λ r. ⌜ r ≡ blockOf channels (now (words .entry)) b ⌝ }
 {
     if b < words.len() {
-        return madi_code::bits_by(table, sent_word(words, b));
+        return madi_lookup::bits_by(table, sent_word(words, b));
     }
     if b < channels {
         return idle;
@@ -75,7 +75,7 @@ fn fill(channels: usize, words: &[u32], syncs: usize, level: u32, line: &mut [u8
     requires { ⌜ (level ≤ 1) × (channels ≤ 64) × (length (now words) ≤ channels) × (syncs ≤ 255) × ((k : ℕ) → getD (now words) k 0 % 4 ≡ 0) × (needed channels syncs ≤ length (now line)) ⌝ }
     ensures { λ r. ⌜ now (line .exit) ≡ frameOctets channels (now (words .entry)) syncs level ++ drop (needed channels syncs) (now (line .entry)) ⌝ }
 {
-    let table = madi_code::pairs();
+    let table = madi_tables::pairs();
     let idle = madi_code::channel_bits(0);
     let whole = channels + syncs / 4;
     let mut last = level as u64;
@@ -95,7 +95,7 @@ fn fill(channels: usize, words: &[u32], syncs: usize, level: u32, line: &mut [u8
 fn in_range(channels: u32, count: usize, syncs: u32, level: u32) -> bool
     ensures { λ r. ⌜ r ≡ inRange channels count syncs level ⌝ }
 {
-    if madi_code::is_counted(channels) {
+    if madi_frame::is_counted(channels) {
         if 1 <= count {
             if count <= channels as usize {
                 if 1 <= syncs {
@@ -123,7 +123,7 @@ fn faults(words: &[u32]) -> u32
     let mut n: u32 = 0;
     let mut i = 0;
     while i < words.len() {
-        n = n + (madi_code::body_parity(words[i]) + words[i] % 4);
+        n = n + (madi_frame::body_parity(words[i]) + words[i] % 4);
         i += 1;
     }
     n
@@ -136,7 +136,7 @@ fn find_fault(words: &[u32]) -> WriteAnswer
 {
     let mut i = 0;
     while i < words.len() {
-        if madi_code::is_even(words[i]) {
+        if madi_frame::is_even(words[i]) {
             i += 1;
         } else {
             return WriteAnswer::Refused {

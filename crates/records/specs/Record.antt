@@ -12,10 +12,10 @@ use Rattle.hd_read.specs.Read.{readAnswer as packetAnswer}
 use Rattle.hd_read.specs.declared.ReadAnswer.{ReadAnswer as PacketRead}
 use Rattle.hd_read.specs.declared.ReadAnswer.the-variants.{Read as PacketIs}
 use Rattle.hd_read.specs.declared.ReadAnswer.the-variants.{Refused as NoPacket}
-use Rattle.madi_read.specs.Reader.{readFrame, answerOf}
-use Rattle.madi_read.specs.declared.ReadAnswer.{ReadAnswer as FrameRead}
-use Rattle.madi_read.specs.declared.ReadAnswer.the-variants.{Read as FrameIs}
-use Rattle.madi_read.specs.declared.ReadAnswer.the-variants.{Refused as NoFrame}
+use Rattle.madi_piece.specs.Reader.{readFrame, answerOf}
+use Rattle.madi_piece.specs.declared.ReadAnswer.{ReadAnswer as FrameRead}
+use Rattle.madi_piece.specs.declared.ReadAnswer.the-variants.{Read as FrameIs}
+use Rattle.madi_piece.specs.declared.ReadAnswer.the-variants.{Refused as NoFrame}
 use Rattle.records.specs.declared.Outcome.{Outcome}
 use Rattle.records.specs.declared.Outcome.the-variants.{Aes3, Hd, Madi, Refused}
 

@@ -110,12 +110,12 @@ fn packet(octets: &[u8]) -> Outcome
     of_packet(hd_read::read_packet(&words, &mut bodies))
 }
 
-fn of_frame(answer: madi_read::ReadAnswer) -> Outcome
+fn of_frame(answer: madi_piece::ReadAnswer) -> Outcome
     ensures { λ r. ⌜ r ≡ ofFrame answer ⌝ }
 {
     match answer {
-        madi_read::ReadAnswer::Read { active, syncs } => Outcome::Madi { active, syncs },
-        madi_read::ReadAnswer::Refused { number, place } => Outcome::Refused { number, place },
+        madi_piece::ReadAnswer::Read { active, syncs } => Outcome::Madi { active, syncs },
+        madi_piece::ReadAnswer::Refused { number, place } => Outcome::Refused { number, place },
     }
 }
 

@@ -28,10 +28,10 @@ use Rattle.madi_write.specs.Writer.{writeAnswer as frameAnswer}
 use Rattle.madi_write.specs.declared.WriteAnswer.{WriteAnswer as FrameAnswer}
 use Rattle.madi_write.specs.declared.WriteAnswer.the-variants.{Written as Framed}
 use Rattle.madi_write.specs.declared.WriteAnswer.the-variants.{Refused as NotFramed}
-use Rattle.madi_read.specs.Reader.{Reading, Reading.taken, Reading.refused, readFrame, answerOf, wordsOf, cleared}
-use Rattle.madi_read.specs.declared.ReadAnswer.{ReadAnswer as FrameReadAnswer}
-use Rattle.madi_read.specs.declared.ReadAnswer.the-variants.{Read as FrameRead}
-use Rattle.madi_read.specs.declared.ReadAnswer.the-variants.{Refused as NoFrame}
+use Rattle.madi_piece.specs.Reader.{Reading, Reading.taken, Reading.refused, readFrame, answerOf, wordsOf, cleared}
+use Rattle.madi_piece.specs.declared.ReadAnswer.{ReadAnswer as FrameReadAnswer}
+use Rattle.madi_piece.specs.declared.ReadAnswer.the-variants.{Read as FrameRead}
+use Rattle.madi_piece.specs.declared.ReadAnswer.the-variants.{Refused as NoFrame}
 use Rattle.madi.proofs.Accepting.{accepted}
 use Rattle.madi.proofs.CountsStood.{counts-stood}
 use Rattle.residue.specs.Residue.{NoResidue}

@@ -5,7 +5,7 @@ use cases::next;
 use cases::sum;
 use cases::sum_words;
 use cases::with_word;
-use madi_read::ReadAnswer;
+use madi_piece::ReadAnswer;
 use madi_write::WriteAnswer;
 
 mod frames;

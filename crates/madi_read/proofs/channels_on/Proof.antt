@@ -8,8 +8,8 @@ use borrow.Author.Needs.{needs}
 use lib.ListN.{length, take, set, length-set}
 use lib.Seq.{take-suc-set}
 use Rattle.bits.specs.Row.{Row}
-use Rattle.madi_code.specs.Frame.{boundary}
-use Rattle.madi_read.specs.Reader.{carried, readFrom}
+use Rattle.madi_frame.specs.Frame.{boundary}
+use Rattle.madi_piece.specs.Reader.{carried, readFrom}
 use Rattle.madi_read.specs.Inner.{Plain, Reached}
 use Rattle.madi_read.proofs.Carrying.{length-carried}
 use Rattle.madi_read.proofs.Onward.{channel-on}

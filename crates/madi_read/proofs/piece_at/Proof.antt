@@ -7,10 +7,10 @@ use borrow.Author.Tests.{lt-ltb, le-ltb, le-leb, eq-eqb, ne-eqb}
 use Rattle.bits.specs.Row.{bigBits}
 use Rattle.bits.specs.Window.{part, window}
 use Rattle.madi_code.specs.Channels.{channelOf}
-use Rattle.madi_code.specs.Frame.{boundary}
+use Rattle.madi_frame.specs.Frame.{boundary}
 use Rattle.madi_code.proofs.ChannelLaws.{broken-lt}
-use Rattle.madi_code.proofs.PairLaws.{octets-received}
-use Rattle.madi_read.specs.Reader.{carried, pieceAt}
+use Rattle.madi_lookup.proofs.PairLaws.{octets-received}
+use Rattle.madi_piece.specs.Reader.{carried, pieceAt}
 use Rattle.madi_read.proofs.Carrying.{length-carried, first-ten, forty}
 use Rattle.madi_read.proofs.piece_at.Statement.{statement}
 use Rattle.madi_read.proofs.piece_at.Tie as tie

@@ -9,7 +9,7 @@ use Rattle.bits.specs.Pack.{symbols}
 use Rattle.bits.proofs.Windows.{window-lt, window-split, window-low}
 use Rattle.madi_code.specs.Channels.{channelOf}
 use Rattle.madi_code.specs.declared.Channel.the-variants.{Word}
-use Rattle.madi_code.proofs.PairLaws.{word-received, word-small}
+use Rattle.madi_lookup.proofs.PairLaws.{word-received, word-small}
 use Rattle.madi_read.proofs.Carrying.{forty}
 use Rattle.madi_read.proofs.Onward.{bits-later}
 use Rattle.madi_read.proofs.plain.Statement.{statement}

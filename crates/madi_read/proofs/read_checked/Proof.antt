@@ -1,9 +1,11 @@
 -- `madi_read::read_checked` meets its contract: the walk, then the copy. Assumes nothing.
 use mathlib.Core.Path.{sym, ap, _∙_, subst}
 use Prim.Native.Nat.{ℕ}
+use native.Mathlib.Omega.{arith}
 use borrow.Author.Needs.{needs}
 use lib.ListN.{take}
-use Rattle.madi_read.specs.Reader.{carried, Reading, readRow, answerOf, wordsOf}
+use Rattle.madi_piece.specs.Reader.{carried, Reading, readRow, answerOf, wordsOf}
+use Rattle.madi_piece.proofs.Copying.{copied-all}
 use Rattle.madi_read.specs.Inner.{Held}
 use Rattle.madi_read.proofs.Admitting.{taken-is, refused-is}
 use Rattle.madi_read.proofs.read_checked.Statement.{statement}
@@ -39,7 +41,7 @@ returns c =
     let held = w .walk .last .1 .1 .1 .1 .0 in
     let t = taken-is (readRow (carried (a .level) (a .bits) (a .line .now)) (a .channels)) (g .0 .0) (g .0 .1 .0) (sym (w .walk .ensures .0) ∙ g .1) in (
       sym (ap answerOf (t .1)),
-      c .before .before .copy .ensures ∙ ap (λ (k : ℕ). take k held) (s .pre .4)
+      c .before .before .copy .ensures ∙ copied-all held (a .words .now) (omega arith) ∙ ap (λ (k : ℕ). take k held) (s .pre .4)
           ∙ subst (λ (r : Reading). Held (a .channels) r held) (t .1) (w .walk .ensures .1)
           ∙ sym (ap (λ (r : Reading). wordsOf r (a .words .now)) (t .1)),
     )

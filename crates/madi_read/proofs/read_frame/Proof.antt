@@ -3,7 +3,7 @@ use mathlib.Core.Path.{sym, _∙_}
 use native.Mathlib.Omega.{arith}
 use borrow.Author.Needs.{needs}
 use borrow.Author.Tests.{eq-eqb, ne-eqb}
-use Rattle.madi_read.specs.Reader.{readFrame}
+use Rattle.madi_piece.specs.Reader.{readFrame}
 use Rattle.madi_read.proofs.Admitting.{Ranged, ranged}
 use Rattle.madi_read.proofs.read_frame.Statement.{statement}
 use Rattle.madi_read.proofs.read_frame.Tie as tie

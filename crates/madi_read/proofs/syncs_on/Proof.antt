@@ -4,8 +4,8 @@ use mathlib.Core.List.{List}
 use Prim.Native.Nat.{ℕ, _-_, _≤_}
 use native.Mathlib.Omega.{arith}
 use borrow.Author.Needs.{needs}
-use Rattle.madi_code.specs.Frame.{boundary}
-use Rattle.madi_read.specs.Reader.{carried}
+use Rattle.madi_frame.specs.Frame.{boundary}
+use Rattle.madi_piece.specs.Reader.{carried}
 use Rattle.madi_read.specs.Inner.{Reached}
 use Rattle.madi_read.proofs.Carrying.{length-carried, window-carried}
 use Rattle.madi_read.proofs.Onward.{sync-on}

@@ -9,11 +9,11 @@ use borrow.Author.Needs.{needs}
 use lib.ListN.{length, take, set, length-set}
 use lib.Seq.{take-suc-set}
 use Rattle.bits.specs.Row.{Row}
-use Rattle.madi_code.specs.Frame.{boundary}
-use Rattle.madi_read.specs.Reader.{carried, Reading, cleared, next, readFrom, readRow, answerOf}
+use Rattle.madi_frame.specs.Frame.{boundary}
+use Rattle.madi_piece.specs.Reader.{carried, Reading, cleared, next, readFrom, readRow, answerOf}
 use Rattle.madi_read.specs.Inner.{Held}
-use Rattle.madi_read.specs.declared.Piece.{Piece}
-use Rattle.madi_read.specs.declared.Piece.the-variants.{End, Sync, Slot, Bad}
+use Rattle.madi_piece.specs.declared.Piece.{Piece}
+use Rattle.madi_piece.specs.declared.Piece.the-variants.{End, Sync, Slot, Bad}
 use Rattle.madi_read.proofs.Carrying.{length-carried}
 use Rattle.madi_read.proofs.Walking.{Room, room, read-step}
 use Rattle.madi_read.proofs.walk.Statement.{statement}
@@ -149,8 +149,8 @@ loop-again c =
 enum-known-p : tie.Need-enum-known-p Inv-loop μ-loop
 enum-known-p c = search needs
 
-sub-held : tie.Need-sub-held Inv-loop μ-loop
-sub-held c = search needs
+cleared-requires : tie.Need-cleared-requires Inv-loop μ-loop
+cleared-requires c κs = search needs
 
 cast-held : tie.Need-cast-held Inv-loop μ-loop
 cast-held c = search needs
@@ -160,8 +160,9 @@ mul-held c = search needs
 
 slice-write-held : tie.Need-slice-write-held Inv-loop μ-loop
 slice-write-held c =
-    let d = c .before .before .before .before .before in
-    omega (arith, step (c .before .before .before) (Slot (c .before .p .given .0 .0)) (c .before .p .given .1) .0, stands d .most, stands d .long)
+    let b = c .before .before in
+    let d = b .before .before .before .before in
+    omega (arith, d .before .before .before .before .before .before .before .before .before .before .pre .3, step (b .before .before) (Slot (b .p .given .0 .0)) (b .p .given .1) .0, stands d .most, stands d .long)
 
 add-active-2 : tie.Need-add-active-2 Inv-loop μ-loop
 add-active-2 c = search needs
@@ -171,17 +172,20 @@ add-n c = search needs
 
 loop-less-2 : tie.Need-loop-less-2 Inv-loop μ-loop
 loop-less-2 c =
-    let d = c .before .before .before .before .before in
-    omega (arith, step (c .before .before .before) (Slot (c .before .p .given .0 .0)) (c .before .p .given .1) .0, width d, stands d .further)
+    let b = c .before .before in
+    let d = b .before .before .before .before in
+    omega (arith, step (b .before .before) (Slot (b .p .given .0 .0)) (b .p .given .1) .0, width d, stands d .further)
 
 loop-again-2 : tie.Need-loop-again-2 Inv-loop μ-loop
 loop-again-2 c =
-    let w = c .before .p .given .0 .0 in
-    let d = c .before .before .before .before .before in
+    let b = c .before .before in
+    let w = b .p .given .0 .0 in
+    let d = b .before .before .before .before in
     let a = d .before .before .before .before .before .before .before .before .before .before .args in
     let g = stands d in
-    let q = step (c .before .before .before) (Slot w) (c .before .p .given .1) in
-    let h : count d < length (kept d) = omega (arith, q .0, g .most, g .long) in (
+    let q = step (b .before .before) (Slot w) (b .p .given .1) in
+    let h : count d < length (kept d) = omega (arith, d .before .before .before .before .before .before .before .before .before .before .pre .3, q .0, g .most, g .long) in
+    rw (c .cleared .ensures) (
       omega (arith, q .0, g .most),
       g .few,
       omega (arith, q .0, width d),
@@ -228,7 +232,7 @@ walk-spec =
     loop-less
     loop-again
     enum-known-p
-    sub-held
+    cleared-requires
     cast-held
     mul-held
     slice-write-held

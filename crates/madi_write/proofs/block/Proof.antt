@@ -4,7 +4,7 @@ use Prim.Native.Nat.{_<_}
 use native.Mathlib.Omega.{arith}
 use borrow.Author.Needs.{needs}
 use borrow.Author.Tests.{lt-ltb, le-ltb}
-use Rattle.madi_code.proofs.PairLaws.{pairs-sent}
+use Rattle.madi_lookup.proofs.PairLaws.{pairs-sent}
 use Rattle.madi_write.specs.Inner.{sentWord, syncsNumber, blockOf}
 use Rattle.madi_write.proofs.block.Statement.{statement}
 use Rattle.madi_write.proofs.block.Tie as tie

@@ -5,7 +5,7 @@ use Prim.Native.Nat.{ℕ, _-_, _*_, _%_, _≤_, _<_}
 use native.Mathlib.Omega.{arith}
 use borrow.Author.Needs.{needs}
 use lib.ListN.{length, getD}
-use Rattle.madi_code.specs.Frame.{evenBody}
+use Rattle.madi_frame.specs.Frame.{evenBody}
 use Rattle.madi_write.proofs.Checks.{sound-more}
 use Rattle.madi_write.proofs.faults.Statement.{statement}
 use Rattle.madi_write.proofs.faults.Tie as tie

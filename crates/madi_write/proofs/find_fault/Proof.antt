@@ -9,7 +9,7 @@ use borrow.Author.Needs.{needs}
 use lib.ListN.{length, getD}
 use Rattle.bits.specs.Pick.{first}
 use Rattle.bits.proofs.Firsts.{first-hit, first-next, first-miss}
-use Rattle.madi_code.specs.Frame.{evenBody}
+use Rattle.madi_frame.specs.Frame.{evenBody}
 use Rattle.madi_write.specs.Writer.{clear, wordsAnswer}
 use Rattle.madi_write.specs.declared.WriteAnswer.{WriteAnswer}
 use Rattle.madi_write.specs.declared.WriteAnswer.the-variants.{Written, Refused}

@@ -5,7 +5,7 @@ use Prim.Native.Nat.{ℕ, _+_, _*_, _≤_}
 use borrow.Author.Tests.{lt-ltb, le-ltb}
 use lib.ListN.{length, getD, drop}
 use lib.Seq.{length-take-le}
-use Rattle.madi_read.specs.Reader.{readFrame, answerOf}
+use Rattle.madi_piece.specs.Reader.{readFrame, answerOf}
 use Rattle.records.specs.Record.{ofFrame, frameOutcome}
 use Rattle.records.proofs.RecordLaws.{to-the-end}
 use borrow.Author.Needs.{needs}
