@@ -26,12 +26,12 @@ fn main() {
     let mut head = [0u8; 4];
     let mut body = no_octets();
     let mut out = [0u8; 128];
-    let start = report::begin(&mut out);
+    let start = report_text::begin(&mut out);
     io::write_all(1, &out[start..]);
     let mut n: u64 = 0;
     loop {
         let got = read(&mut head);
-        let size = report::to_read(&head[..got]);
+        let size = report_head::to_read(&head[..got]);
         let had = read(&mut body[..size]);
         let step = report::tell(n, &head[..got], &body[..had], &mut out);
         let from = step.from;

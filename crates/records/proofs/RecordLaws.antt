@@ -7,7 +7,7 @@ use borrow.Author.Tests.{eq-eqb, ne-eqb, lt-ltb, le-ltb}
 use lib.ListN.{length, getD, take, drop, length-drop}
 use lib.Seq.{take-all}
 use Rattle.records.specs.Record.{paired, blockOutcome, packetOutcome, frameOutcome, byKind, judged}
-use Rattle.records.specs.declared.Outcome.the-variants.{Refused}
+use Rattle.report_text.specs.declared.Outcome.the-variants.{Refused}
 
 -- ---- words of two octets
 

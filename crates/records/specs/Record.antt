@@ -16,8 +16,8 @@ use Rattle.madi_piece.specs.Reader.{readFrame, answerOf}
 use Rattle.madi_piece.specs.declared.ReadAnswer.{ReadAnswer as FrameRead}
 use Rattle.madi_piece.specs.declared.ReadAnswer.the-variants.{Read as FrameIs}
 use Rattle.madi_piece.specs.declared.ReadAnswer.the-variants.{Refused as NoFrame}
-use Rattle.records.specs.declared.Outcome.{Outcome}
-use Rattle.records.specs.declared.Outcome.the-variants.{Aes3, Hd, Madi, Refused}
+use Rattle.report_text.specs.declared.Outcome.{Outcome}
+use Rattle.report_text.specs.declared.Outcome.the-variants.{Aes3, Hd, Madi, Refused}
 
 -- ---- kind 1: an AES3 block; whether the CRCC of A and of B is right
 

@@ -3,14 +3,7 @@ ghost use mathlib.Core.Path.{_≡_};
 ghost use Prim.Native.Nat.{_+_, _*_, _<_};
 ghost use lib.ListN.{length};
 ghost use Rattle.records.specs.Record.{judged, ofBlock, blockOutcome, ofPacket, packetOutcome, paired, ofFrame, frameOutcome};
-
-// What a record comes to: the two values of its line, or a refusal's number and place.
-pub enum Outcome {
-    Aes3 { a: u32, b: u32 },
-    Hd { group: u32, dbn: u32 },
-    Madi { active: u32, syncs: u32 },
-    Refused { number: u32, place: u32 },
-}
+use report_text::Outcome;
 
 // Zeros for the readers to write over. A goal then has only these lengths to say, and not the zeros.
 fn no_samples() -> [i32; 384]

@@ -3,8 +3,9 @@ use mathlib.Core.Path.{_≡_, refl}
 use mathlib.Core.List.{List, [], _∷_}
 use Prim.Native.Nat.{ℕ}
 use Rattle.records.specs.Record.{packetOutcome, byKind, judged}
-use Rattle.report.specs.Text.{digits, decimal, pairText, outcomeText, lineOf, countLine}
-use Rattle.report.specs.Report.{sizeOf, reportOn, reportOf}
+use Rattle.report_head.specs.Head.{sizeOf}
+use Rattle.report_text.specs.Text.{digits, decimal, pairText, outcomeText, lineOf, countLine}
+use Rattle.report.specs.Report.{reportOn, reportOf}
 
 -- carrier report 1 / 1 refused 1 0 / records 1
 abbrev pub printed : List ℕ

@@ -11,12 +11,15 @@ use lib.ListN.{length, take, drop, length-take, length-drop}
 use lib.Seq.{getD-take}
 use Rattle.bits.proofs.Tests.{pick-cases, no-yes}
 use Rattle.records.specs.Record.{judged}
-use Rattle.records.specs.declared.Outcome.the-variants.{Refused}
-use Rattle.report.specs.Text.{heading, cut, lineOf, countLine}
-use Rattle.report.specs.Report.{Told, sizeOf, reportOn, reportOf, toRead, ending, going, told, headOf, bodyOf, walkOn, walked}
+use Rattle.report_text.specs.declared.Outcome.the-variants.{Refused}
+use Rattle.report_head.specs.Head.{sizeOf, toRead}
+use Rattle.report_head.specs.declared.Turn.{Turn}
+use Rattle.report_head.proofs.HeadLaws.{read-all, turn-empty, turn-header, turn-long, turn-cut, turn-record, turn-cases}
+use Rattle.report_text.specs.Text.{heading, cut, lineOf, countLine}
+use Rattle.report.specs.Report.{Told, reportOn, reportOf, ending, going, toldOf, told, headOf, bodyOf, walkOn, walked}
 use Rattle.report.specs.Inner.{stepOf}
 use Rattle.report.specs.declared.Step.{Step}
-use Rattle.report.proofs.Steps.{read-all, told-empty, told-header, told-long, told-cut, told-record}
+use Rattle.report.proofs.Steps.{told-by}
 
 -- ---- the count line always ends the report
 
@@ -85,7 +88,8 @@ module _ (n : ℕ) (input : List ℕ) (room : n + length input < 2 ^ 64) where
   front = length-take 4 input
 
   front-empty : length input ≡ 0 → told n (headOf input) (bodyOf input) ≡ ending n []
-  front-empty e = told-empty n (headOf input) (bodyOf input) (omega (arith, front))
+  unfolding toldOf
+  front-empty e = told-by n (headOf input) (bodyOf input) (turn-empty n (headOf input) (length (bodyOf input)) (omega (arith, front)))
 
   module _ (some : length input ≡ 0 → ⊥) where
     full : n ≡ 2 ^ 64 - 1 → ⊥
@@ -95,7 +99,8 @@ module _ (n : ℕ) (input : List ℕ) (room : n + length input < 2 ^ 64) where
     headed e = some (omega (arith, front))
 
     front-cut : length input < 4 → told n (headOf input) (bodyOf input) ≡ ending n cut
-    front-cut l = told-header n (headOf input) (bodyOf input) headed full (omega (arith, front))
+    unfolding toldOf
+    front-cut l = told-by n (headOf input) (bodyOf input) (turn-header n (headOf input) (length (bodyOf input)) headed full (omega (arith, front)))
 
     module _ (header : 4 ≤ length input) where
       whole : 4 ≤ length (headOf input)
@@ -105,7 +110,8 @@ module _ (n : ℕ) (input : List ℕ) (room : n + length input < 2 ^ 64) where
       size = sym (size-front input)
 
       front-long : 8192 < sizeOf input → told n (headOf input) (bodyOf input) ≡ ending (n + 1) (lineOf (n + 1) (Refused 2 0))
-      front-long l = told-long n (headOf input) (bodyOf input) headed full whole size l
+      unfolding toldOf
+      front-long l = told-by n (headOf input) (bodyOf input) (turn-long n (headOf input) (length (bodyOf input)) headed full whole size l)
 
       module _ (most : sizeOf input ≤ 8192) where
         front-reads : toRead (headOf input) ≡ sizeOf input
@@ -118,13 +124,17 @@ module _ (n : ℕ) (input : List ℕ) (room : n + length input < 2 ^ 64) where
         body-length = ap length body-is ∙ length-take (sizeOf input) (drop 4 input) ∙ ap (min (sizeOf input)) (length-drop 4 input)
 
         front-body-cut : length input - 4 < sizeOf input → told n (headOf input) (bodyOf input) ≡ ending n cut
+        unfolding toldOf
         front-body-cut l =
-            told-cut n (headOf input) (bodyOf input) headed full whole size most (omega (arith, body-length))
+            told-by n (headOf input) (bodyOf input)
+            (turn-cut n (headOf input) (length (bodyOf input)) headed full whole size most (omega (arith, body-length)))
 
         front-record : sizeOf input ≤ length input - 4
             → told n (headOf input) (bodyOf input) ≡ going (n + 1) (lineOf (n + 1) (judged (take (sizeOf input) (drop 4 input))))
+        unfolding toldOf
         front-record l =
-            told-record n (headOf input) (bodyOf input) headed full whole size most (omega (arith, body-length))
+            told-by n (headOf input) (bodyOf input)
+            (turn-record n (headOf input) (length (bodyOf input)) headed full whole size most (omega (arith, body-length)))
             ∙ ap (λ (body : List ℕ). going (n + 1) (lineOf (n + 1) (judged body))) body-is
 
 -- a step of the walk is one of the report
@@ -153,13 +163,6 @@ walked-is input h = ap (λ (r : List ℕ). heading ++ r) (walk-on (suc (length i
 
 -- ---- what a caller goes on with
 
--- no record is longer than 8,192 octets
-pub read-fits : (head : List ℕ) → toRead head ≤ 8192
-unfolding toRead
-read-fits head =
-    pick-cases (λ (k : ℕ). k ≤ 8192) (ltb (length head) 4) _ _ (λ t. omega arith)
-    (λ f. pick-cases (λ (k : ℕ). k ≤ 8192) (ltb 8192 (sizeOf head)) _ _ (λ t. omega arith) (λ g. ltb-false 8192 (sizeOf head) g))
-
 -- each step but the last counts a record
 abbrev Counts : ℕ → Told → Type 0
 Counts n t = t .last ≡ false → t .records ≡ n + 1
@@ -173,13 +176,10 @@ unfolding going
 one-more n text e = refl
 
 counts : (n : ℕ) (head body : List ℕ) → Counts n (told n head body)
-unfolding told
+unfolding told toldOf
 counts n head body =
-    pick-cases (Counts n) (eqb (length head) 0) _ _ (λ t. no-more n n [])
-    (λ f. pick-cases (Counts n) (eqb n (2 ^ 64 - 1)) _ _ (λ t. no-more n n [])
-    (λ g. pick-cases (Counts n) (ltb (length head) 4) _ _ (λ t. no-more n n cut)
-    (λ h. pick-cases (Counts n) (ltb 8192 (sizeOf head)) _ _ (λ t. no-more n (n + 1) (lineOf (n + 1) (Refused 2 0)))
-    (λ i. pick-cases (Counts n) (ltb (length body) (sizeOf head)) _ _ (λ t. no-more n n cut) (λ j. one-more n (lineOf (n + 1) (judged body)))))))
+    turn-cases n head (length body) (λ (t : Turn). Counts n (toldOf t body)) (no-more n n []) (no-more n n cut)
+    (no-more n (n + 1) (lineOf (n + 1) (Refused 2 0))) (one-more n (lineOf (n + 1) (judged body)))
 
 pub step-counts : (n : ℕ) (head body : List ℕ) {s : Step} → s ≡ stepOf (told n head body) → s .last ≡ false → s .records ≡ n + 1
 unfolding stepOf

@@ -1,24 +1,7 @@
 -- A step of the report as the code hands it over: its text stands at the end of a buffer of 128 octets. Assumes nothing.
-use mathlib.Core.Path.{_≡_}
-use Prim.Native.Nat.{ℕ, _+_, _-_}
-use mathlib.Core.List.{List, _++_}
-use lib.ListN.{length, take, drop}
+use Rattle.report_text.specs.Placed.{startOf}
 use Rattle.report.specs.Report.{Told}
 use Rattle.report.specs.declared.Step.{Step}
 
--- where a text starts there
-unfoldable pub startOf : List ℕ → ℕ
-startOf text = 128 - length text
-
--- the buffer then, whose octets before the text are as they were
-unfoldable pub withText : List ℕ → List ℕ → List ℕ
-withText text old = take (startOf text) old ++ text
-
 unfoldable pub stepOf : Told → Step
 stepOf t = record { from = startOf (t .text); records = t .records; last = t .last }
-
--- a text was put into a buffer before `end`, from `from` on, and nothing else was changed
-pub record Put (old : List ℕ) (end : ℕ) (text : List ℕ) (from : ℕ) (new : List ℕ) : Type 0 where
-  pub ends : from + length text ≡ end
-  pub before : take from new ≡ take from old
-  pub after : drop from new ≡ text ++ drop end old

@@ -1,19 +1,18 @@
 -- The report of a whole input: records one after the other, each four octets of length, the highest first, and then as many octets.
 -- Beside it what is told of one record from the octets that there were of it, and the report as a program that goes record by record
 -- writes it. Assumes nothing.
-use Prim.Native.Nat.{ℕ, zero, suc, _+_, _-_, _*_, _^_}
+use Prim.Native.Nat.{ℕ, zero, suc, _+_, _-_}
 use mathlib.Core.Bool.{Bool, true, false}
 use mathlib.Core.List.{List, [], _++_}
 use lib.Dec.{eqb, ltb}
-use lib.ListN.{length, getD, take, drop}
+use lib.ListN.{length, take, drop}
 use Rattle.bits.specs.Pick.{pick}
 use Rattle.records.specs.Record.{judged}
-use Rattle.records.specs.declared.Outcome.the-variants.{Refused}
-use Rattle.report.specs.Text.{heading, cut, lineOf, countLine}
-
--- the length that stands first
-unfoldable pub sizeOf : List ℕ → ℕ
-sizeOf input = getD input 0 0 * 2 ^ 24 + getD input 1 0 * 2 ^ 16 + getD input 2 0 * 2 ^ 8 + getD input 3 0
+use Rattle.report_text.specs.declared.Outcome.the-variants.{Refused}
+use Rattle.report_head.specs.Head.{sizeOf, toRead, turnOf}
+use Rattle.report_head.specs.declared.Turn.{Turn}
+use Rattle.report_head.specs.declared.Turn.the-variants.{End, Cut, Long, Record}
+use Rattle.report_text.specs.Text.{heading, cut, lineOf, countLine}
 
 -- ---- the whole input
 
@@ -34,10 +33,6 @@ reportOf input = heading ++ reportOn (suc (length input)) 0 input
 
 -- ---- one record
 
--- how many octets are to be read after a header: none after one that is cut, or whose length is above 8,192
-unfoldable pub toRead : List ℕ → ℕ
-toRead head = pick (ltb (length head) 4) 0 (pick (ltb 8192 (sizeOf head)) 0 (sizeOf head))
-
 -- what is told of a record: a text, how many records are counted then, and whether the report ends
 pub record Told : Type 0 where
   pub text : List ℕ
@@ -51,16 +46,16 @@ ending n text = record { text = text ++ countLine n; records = n; last = true }
 unfoldable pub going : ℕ → List ℕ → Told
 going n text = record { text = text; records = n; last = false }
 
--- after n records, from the octets that there were of a header and of the body after it. A count that has no room for another record
--- ends the report.
+-- what a turn comes to
+unfoldable pub toldOf : Turn → List ℕ → Told
+toldOf (End n) body = ending n []
+toldOf (Cut n) body = ending n cut
+toldOf (Long n) body = ending n (lineOf n (Refused 2 0))
+toldOf (Record n) body = going n (lineOf n (judged body))
+
+-- after n records, from the octets that there were of a header and of the body after it
 unfoldable pub told : ℕ → List ℕ → List ℕ → Told
-told n head body =
-    pick (eqb (length head) 0) (ending n [])
-    (pick (eqb n (2 ^ 64 - 1)) (ending n [])
-    (pick (ltb (length head) 4) (ending n cut)
-    (pick (ltb 8192 (sizeOf head)) (ending (n + 1) (lineOf (n + 1) (Refused 2 0)))
-    (pick (ltb (length body) (sizeOf head)) (ending n cut)
-    (going (n + 1) (lineOf (n + 1) (judged body)))))))
+told n head body = toldOf (turnOf n head (length body)) body
 
 -- ---- record by record
 

@@ -10,13 +10,13 @@ fn least(a: usize, b: usize) -> usize
 
 fn run(input: &[u8]) {
     let mut out = [0u8; 128];
-    let start = report::begin(&mut out);
+    let start = report_text::begin(&mut out);
     io::write_all(1, &out[start..]);
     let mut n: u64 = 0;
     let mut at: usize = 0;
     loop {
         let body = at + least(input.len() - at, 4);
-        let size = report::to_read(&input[at..body]);
+        let size = report_head::to_read(&input[at..body]);
         let end = body + least(input.len() - body, size);
         let step = report::tell(n, &input[at..body], &input[body..end], &mut out);
         let from = step.from;

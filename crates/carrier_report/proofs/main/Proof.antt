@@ -5,10 +5,12 @@ use Prim.Native.Nat.{ℕ, _-_, _≤_}
 use native.Mathlib.Omega.{arith}
 use lib.ListN.{length, drop, length-append}
 use lib.Seq.{length-take-le, length-front}
-use Rattle.report.specs.Text.{heading}
-use Rattle.report.specs.Report.{toRead}
-use Rattle.report.proofs.Written.{starts, step-starts, heading-size, step-size}
-use Rattle.report.proofs.Whole.{read-fits, step-counts}
+use Rattle.report_text.specs.Text.{heading}
+use Rattle.report_head.specs.Head.{toRead}
+use Rattle.report_text.proofs.Lengths.{starts, heading-size}
+use Rattle.report.proofs.Written.{step-starts, step-size}
+use Rattle.report_head.proofs.HeadLaws.{read-fits}
+use Rattle.report.proofs.Whole.{step-counts}
 use borrow.Author.Needs.{needs}
 use Rattle.carrier_report.proofs.main.Statement.{statement}
 use Rattle.carrier_report.proofs.main.Tie as tie

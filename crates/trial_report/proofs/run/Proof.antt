@@ -3,8 +3,9 @@ use mathlib.Core.Path.{_≡_}
 use Prim.Native.Nat.{_-_, _≤_}
 use native.Mathlib.Omega.{arith}
 use lib.ListN.{length}
-use Rattle.report.specs.Text.{heading}
-use Rattle.report.proofs.Written.{starts, step-starts, heading-size, step-size}
+use Rattle.report_text.specs.Text.{heading}
+use Rattle.report_text.proofs.Lengths.{starts, heading-size}
+use Rattle.report.proofs.Written.{step-starts, step-size}
 use Rattle.report.proofs.Whole.{step-counts}
 use borrow.Author.Needs.{needs}
 use Rattle.trial_report.proofs.run.Statement.{statement}

@@ -1,0 +1,14 @@
+-- `report_text::line` meets its contract. Assumes nothing.
+use Rattle.report_text.proofs.TextLaws.{put-start, put-all}
+use borrow.Author.Needs.{needs}
+use Rattle.report_text.proofs.line.Statement.{statement}
+use Rattle.report_text.proofs.line.Tie as tie
+
+put-line-requires : tie.Need-put-line-requires
+put-line-requires c κs = search needs
+
+returns : tie.Need-returns
+returns c = (put-start (search needs) (c .put-line .ensures), put-all (search needs) (c .put-line .ensures))
+
+pub line-spec : {M : Type 1} → statement M
+line-spec = tie.close (tie.spec put-line-requires returns)

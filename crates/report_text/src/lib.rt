@@ -1,0 +1,159 @@
+// The text of the report: what a record comes to, its line, and the lines around those of the records. Each text is made at the end of a lent
+// buffer, and the function that makes it answers where it starts.
+ghost use mathlib.Core.Path.{_≡_};
+ghost use mathlib.Core.List.{_∷_, [], _++_};
+ghost use Prim.Native.Nat.{_+_, _≤_};
+ghost use lib.ListN.{length};
+ghost use Rattle.report_text.specs.Text.{heading, cut, decimal, pairText, outcomeText, lineOf, countLine};
+ghost use Rattle.report_text.specs.Placed.{startOf, withText, Put};
+ghost use Rattle.report_text.specs.declared.Outcome.the-variants.{Refused};
+
+// What a record comes to: the two values of its line, or a refusal's number and place.
+pub enum Outcome {
+    Aes3 { a: u32, b: u32 },
+    Hd { group: u32, dbn: u32 },
+    Madi { active: u32, syncs: u32 },
+    Refused { number: u32, place: u32 },
+}
+
+// ---- text, put before a place of a buffer; each function answers where the text starts. A line is so made from its end, as the
+// digits of a number are, and nothing is copied.
+
+fn put_octet(out: &mut [u8], end: usize, x: u8) -> usize
+    requires { ⌜ (1 ≤ end) × (end ≤ length (now out)) ⌝ }
+    ensures { λ r. ⌜ Put (now (out .entry)) end (x ∷ []) r (now (out .exit)) ⌝ }
+{
+    let at = end - 1;
+    out[at] = x;
+    at
+}
+
+fn put(out: &mut [u8], end: usize, word: &[u8]) -> usize
+    requires { ⌜ (length (now word) ≤ end) × (end ≤ length (now out)) ⌝ }
+    ensures { λ r. ⌜ Put (now (out .entry)) end (now (word .entry)) r (now (out .exit)) ⌝ }
+{
+    let from = end - word.len();
+    let mut i = 0;
+    while i < word.len() {
+        out[from + i] = word[i];
+        i += 1;
+    }
+    from
+}
+
+fn put_number(out: &mut [u8], end: usize, n: u64) -> usize
+    requires { ⌜ (20 ≤ end) × (end ≤ length (now out)) ⌝ }
+    ensures { λ r. ⌜ Put (now (out .entry)) end (decimal n) r (now (out .exit)) ⌝ }
+    ensures { λ r. ⌜ end ≤ r + 20 ⌝ }
+{
+    let base = end - 20;
+    let mut left: usize = 20;
+    let mut rest = n;
+    while 0 < left {
+        left -= 1;
+        out[base + left] = (48 + rest % 10) as u8;
+        rest /= 10;
+        if rest == 0 {
+            return base + left;
+        }
+    }
+    base
+}
+
+// A word and two numbers, which end the line.
+fn put_pair(out: &mut [u8], end: usize, word: &[u8], a: u32, b: u32) -> usize
+    requires { ⌜ (length (now word) + 42 ≤ end) × (end ≤ length (now out)) ⌝ }
+    ensures { λ r. ⌜ Put (now (out .entry)) end (pairText (now (word .entry)) a b) r (now (out .exit)) ⌝ }
+    ensures { λ r. ⌜ end ≤ r + length (now (word .entry)) + 42 ⌝ }
+{
+    let t = put_octet(out, end, b'\n');
+    let t = put_number(out, t, b as u64);
+    let t = put_octet(out, t, b' ');
+    let t = put_number(out, t, a as u64);
+    put(out, t, word)
+}
+
+fn put_outcome(out: &mut [u8], end: usize, o: Outcome) -> usize
+    requires { ⌜ (51 ≤ end) × (end ≤ length (now out)) ⌝ }
+    ensures { λ r. ⌜ Put (now (out .entry)) end (outcomeText o) r (now (out .exit)) ⌝ }
+    ensures { λ r. ⌜ end ≤ r + 51 ⌝ }
+{
+    match o {
+        Outcome::Aes3 { a, b } => put_pair(out, end, b" aes3 ok ", a, b),
+        Outcome::Hd { group, dbn } => put_pair(out, end, b" hd ok ", group, dbn),
+        Outcome::Madi { active, syncs } => put_pair(out, end, b" madi ok ", active, syncs),
+        Outcome::Refused { number, place } => put_pair(out, end, b" refused ", number, place),
+    }
+}
+
+// The line of record n.
+fn put_line(out: &mut [u8], end: usize, n: u64, o: Outcome) -> usize
+    requires { ⌜ (71 ≤ end) × (end ≤ length (now out)) ⌝ }
+    ensures { λ r. ⌜ Put (now (out .entry)) end (lineOf n o) r (now (out .exit)) ⌝ }
+{
+    let t = put_outcome(out, end, o);
+    put_number(out, t, n)
+}
+
+// The line that ends the report, at the end of the buffer.
+fn put_count(out: &mut [u8], n: u64) -> usize
+    requires { ⌜ length (now out) ≡ 128 ⌝ }
+    ensures { λ r. ⌜ Put (now (out .entry)) 128 (countLine n) r (now (out .exit)) ⌝ }
+    ensures { λ r. ⌜ 99 ≤ r ⌝ }
+{
+    let t = put_octet(out, 128, b'\n');
+    let t = put_number(out, t, n);
+    put(out, t, b"records ")
+}
+
+// ---- the report's texts, at the end of the lent buffer
+
+// The report's first line.
+pub fn begin(out: &mut [u8; 128]) -> usize
+    ensures { λ r. ⌜ r ≡ startOf heading ⌝ }
+    ensures { λ _. ⌜ now (out .exit) ≡ withText heading (now (out .entry)) ⌝ }
+{
+    put(out, 128, b"carrier report 1\n")
+}
+
+// The line of record n.
+pub fn line(n: u64, o: Outcome, out: &mut [u8; 128]) -> usize
+    ensures { λ r. ⌜ r ≡ startOf (lineOf n o) ⌝ }
+    ensures { λ _. ⌜ now (out .exit) ≡ withText (lineOf n o) (now (out .entry)) ⌝ }
+{
+    put_line(out, 128, n, o)
+}
+
+// The line that ends the report.
+pub fn count(n: u64, out: &mut [u8; 128]) -> usize
+    ensures { λ r. ⌜ r ≡ startOf (countLine n) ⌝ }
+    ensures { λ _. ⌜ now (out .exit) ≡ withText (countLine n) (now (out .entry)) ⌝ }
+{
+    put_count(out, n)
+}
+
+// That line behind the word that the input was cut.
+pub fn cut_short(n: u64, out: &mut [u8; 128]) -> usize
+    ensures { λ r. ⌜ r ≡ startOf (cut ++ countLine n) ⌝ }
+    ensures { λ _. ⌜ now (out .exit) ≡ withText (cut ++ countLine n) (now (out .entry)) ⌝ }
+{
+    let t = put_count(out, n);
+    put(out, t, b"cut\n")
+}
+
+// That line behind that of record n, which is too long.
+pub fn too_long(n: u64, out: &mut [u8; 128]) -> usize
+    ensures { λ r. ⌜ r ≡ startOf (lineOf n (Refused 2 0) ++ countLine n) ⌝ }
+    ensures { λ _. ⌜ now (out .exit) ≡ withText (lineOf n (Refused 2 0) ++ countLine n) (now (out .entry)) ⌝ }
+{
+    let t = put_count(out, n);
+    put_line(
+        out,
+        t,
+        n,
+        Outcome::Refused {
+            number: 2,
+            place: 0,
+        },
+    )
+}
