@@ -37,10 +37,19 @@ void record_put(int version, int kind, const uint8_t *payload, size_t n)
     record_octets(payload, n);
 }
 
+/* Draws that stand in one expression may be taken in any order; here each has a statement of its own, so that the records are the same
+   whatever the compiler. */
+static int32_t draw_sample(void)
+{
+    uint32_t high = record_draw();
+    return (int32_t)(high * 256u + record_below(256)) - 8388608;
+}
+
 static uint32_t draw_body(void)
 {
-    int32_t sample = (int32_t)(record_draw() * 256u + record_below(256)) - 8388608;
-    return second_body_write(sample, record_below(2), record_below(2), record_below(2)).body;
+    int32_t sample = draw_sample();
+    uint32_t v = record_below(2), u = record_below(2), c = record_below(2);
+    return second_body_write(sample, v, u, c).body;
 }
 
 static void good_line(uint8_t line[3072])
@@ -48,7 +57,7 @@ static void good_line(uint8_t line[3072])
     int32_t samples[384];
     uint8_t side[144];
     for (int k = 0; k < 384; k++)
-        samples[k] = (int32_t)(record_draw() * 256u + record_below(256)) - 8388608;
+        samples[k] = draw_sample();
     for (int k = 0; k < 144; k++)
         side[k] = (uint8_t)record_below(256);
     for (int channel = 0; channel < 2; channel++) {
@@ -94,7 +103,8 @@ static void spoil_packet(uint16_t words[31], int way)
     if (way == HD_CHECKSUM)
         words[30] ^= 0x001;
     if (way == HD_LANE) {
-        words[6 + record_below(24)] ^= (uint16_t)(1u << record_below(8));
+        uint32_t w = 6 + record_below(24);
+        words[w] ^= (uint16_t)(1u << record_below(8));
         spoil_close_words(words);
     }
     if (way == HD_ZERO) {
@@ -114,7 +124,8 @@ void record_hd(uint32_t group, uint32_t dbn, int way)
     uint8_t payload[62];
     for (int k = 0; k < 4; k++)
         bodies[k] = draw_body();
-    second_hd_write(group, dbn, record_below(4096), record_below(2), record_below(2), record_below(2), bodies, 4, words, 31);
+    uint32_t phase = record_below(4096), ck12 = record_below(2), z1 = record_below(2), z2 = record_below(2);
+    second_hd_write(group, dbn, phase, ck12, z1, z2, bodies, 4, words, 31);
     spoil_packet(words, way);
     for (int w = 0; w < 31; w++) {
         payload[2 * w] = (uint8_t)(words[w] / 256);
@@ -129,7 +140,9 @@ static void frame_row(spoil_row *r, uint32_t channels, int way)
     uint32_t active = 1 + record_below(channels), at = record_below(active);
     r->bits = 0;
     for (uint32_t c = 0; c < channels; c++) {
-        uint32_t word = c < active ? draw_body() | record_below(4) * 4 | 2u | (c == 0) : 0;
+        uint32_t word = c < active ? draw_body() | 2u | (c == 0) : 0;
+        if (c < active)
+            word |= record_below(4) * 4;
         if (way == MADI_STATE && c == at)
             word = word ^ (c == 0 || record_below(2) == 0 ? 1u : 3u);
         if (way == MADI_PARITY && c == at)
