@@ -79,8 +79,11 @@ static void prepare_carriers(void)
         side[72 * c + 48] = 0x85;
         lampcoil_status_seal(side + 72 * c + 48, 24);
     }
-    for (int k = 0; k < 64; k++)
-        words[k] = lampcoil_body_write((int32_t)(draw() & 0xFFFFFF) - 8388608, draw() & 1, draw() & 1, draw() & 1).body;
+    for (int k = 0; k < 64; k++) {
+        int32_t sample = (int32_t)(draw() & 0xFFFFFF) - 8388608;
+        uint32_t flags = draw();
+        words[k] = lampcoil_body_write(sample, flags & 1, flags >> 1 & 1, flags >> 2 & 1).body;
+    }
     memcpy(bodies, words, sizeof bodies);
     lampcoil_aes3_write(samples, 384, side, 144, 0, line, 3072);
     lampcoil_madi_write(64, words, 64, SYNCS, 0, madi, sizeof madi);

@@ -23,9 +23,10 @@ static void spoil_block(void)
 {
     static const int32_t outside[] = {8388608, -8388609, INT32_MAX, INT32_MIN, 16777215};
     uint8_t *channel = side + 72 * below(2);
+    uint32_t at = below(384);
     switch (below(8)) {
     case 0:
-        samples[below(384)] = outside[below(5)];
+        samples[at] = outside[below(5)];
         break;
     case 1: /* consumer use, sealed or not */
         channel[48] &= 0xFE;
@@ -33,14 +34,14 @@ static void spoil_block(void)
             second_status_seal(channel + 48, 24);
         break;
     case 2:
-        channel[48 + below(24)] ^= (uint8_t)second_weight((int)below(8));
+        channel[48 + at % 24] ^= (uint8_t)second_weight((int)below(8));
         break;
     case 3: /* other purposes with one V of 0 */
         memset(channel, 0xFF, 24);
         if (once_in(2))
-            channel[below(24)] ^= (uint8_t)second_weight((int)below(8));
+            channel[at % 24] ^= (uint8_t)second_weight((int)below(8));
         else
-            channel[once_in(2) ? 0 : 23] ^= (uint8_t)(once_in(2) ? 0x01 : 0x80);
+            channel[at % 2 == 0 ? 0 : 23] ^= (uint8_t)(once_in(2) ? 0x01 : 0x80);
         channel[48] |= 2;
         second_status_seal(channel + 48, 24);
         break;
@@ -148,8 +149,9 @@ static void aes3_find(size_t n)
         uint32_t at = below(8 * (uint32_t)n - 72);
         if (once_in(4)) /* the end cuts the second preamble */
             at = 8 * (uint32_t)n - 72 + below(8);
-        plant(stretch, n, at, 0x0E8, once_in(2));
-        plant(stretch, n, at + 64, once_in(8) ? 0x0E2 : 0x0E4, once_in(2));
+        int first = once_in(2), other = once_in(8), second = once_in(2);
+        plant(stretch, n, at, 0x0E8, first);
+        plant(stretch, n, at + 64, other ? 0x0E2 : 0x0E4, second);
     }
     begin("aes3_find");
     lent in = lend_in(stretch, n, 1);

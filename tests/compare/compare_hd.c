@@ -2,6 +2,15 @@
 #include "compare.h"
 #include "spoil.h"
 
+/* Draws stand in statements of their own here and below, so that the cases are the same whatever the compiler. */
+
+/* Turns over one of the low `bits` bits of one of `count` words. */
+static void flip_one(uint16_t *words, uint32_t count, uint32_t bits)
+{
+    uint32_t w = below(count);
+    words[w] ^= (uint16_t)(1u << below(bits));
+}
+
 static void hd_write(void)
 {
     uint32_t group = once_in(12) ? any_number(5) : 1 + below(4), bodies[40];
@@ -9,10 +18,14 @@ static void hd_write(void)
     size_t n = any_length(4), m = any_length(31);
     for (int k = 0; k < 40; k++)
         bodies[k] = even_body();
-    while (once_in(6))
-        bodies[below(4)] ^= second_weight((int)below(32));
-    if (once_in(8))
-        bodies[below(4)] |= below(16);
+    while (once_in(6)) {
+        uint32_t k = below(4);
+        bodies[k] ^= second_weight((int)below(32));
+    }
+    if (once_in(8)) {
+        uint32_t k = below(4);
+        bodies[k] |= below(16);
+    }
     begin("hd_write");
     lent in = lend_in(bodies, n, sizeof bodies[0]), out = lend_out(m, 2);
     lampcoil_verdict a = lampcoil_hd_write(group, dbn, phase, ck12, z1, z2, in.library, n, out.library, m);
@@ -27,32 +40,34 @@ static void good_packet(uint16_t words[64])
         words[k] = (uint16_t)draw();
     for (int k = 0; k < 4; k++)
         bodies[k] = even_body();
-    second_hd_write(1 + below(4), below(256), below(4096), below(2), below(2), below(2), bodies, 4, words, 31);
+    uint32_t group = 1 + below(4), dbn = below(256), phase = below(4096), ck12 = below(2), z1 = below(2), z2 = below(2);
+    second_hd_write(group, dbn, phase, ck12, z1, z2, bodies, 4, words, 31);
 }
 
 /* Damages a good packet so that each of the reader's and of repair's refusals comes up. */
 static void damage(uint16_t *words)
 {
+    uint32_t at = below(31), datum = 6 + below(24);
     switch (below(10)) {
     case 0: /* a word above 1,023 */
-        words[below(31)] |= (uint16_t)(1024u << below(6));
+        words[at] |= (uint16_t)(1024u << below(6));
         break;
     case 1: /* one bit anywhere */
-        words[below(31)] ^= (uint16_t)(1u << below(10));
+        flip_one(words, 31, 10);
         break;
     case 2: /* a header word */
-        words[below(6)] ^= (uint16_t)(1u << below(10));
+        flip_one(words, 6, 10);
         spoil_close_lanes(words);
         break;
     case 3: /* the checksum */
         words[30] = (uint16_t)below(1024);
         break;
     case 4: /* lanes, all else being right */
-        words[6 + below(24)] ^= (uint16_t)(1 + below(255));
+        words[datum] ^= (uint16_t)(1 + below(255));
         spoil_close_words(words);
         break;
     case 5: /* any data bit, all else being right: a required zero, or parity */
-        words[6 + below(18)] ^= (uint16_t)(1u << below(8));
+        flip_one(words + 6, 18, 8);
         spoil_close_lanes(words);
         break;
     case 6: /* one place in some lanes, each anywhere */
@@ -69,10 +84,10 @@ static void damage(uint16_t *words)
             words[w] = (uint16_t)below(once_in(2) ? 1024 : 1030);
         break;
     default: /* another first word, with lanes that are right */
-        words[below(3)] ^= (uint16_t)(1u << below(8));
+        flip_one(words, 3, 8);
         spoil_close_lanes(words);
         while (once_in(2))
-            words[below(30)] ^= (uint16_t)(1u << below(8));
+            flip_one(words, 30, 8);
         break;
     }
 }

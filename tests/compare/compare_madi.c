@@ -10,6 +10,13 @@ static uint32_t any_channels(void)
     return once_in(2) ? 56 : 64;
 }
 
+/* A body with any bits 2 and 3. Draws stand in statements of their own, so that the cases are the same whatever the compiler. */
+static uint32_t marked_body(void)
+{
+    uint32_t body = even_body();
+    return body | (draw() & 12u);
+}
+
 static void madi_write(void)
 {
     uint32_t words[80], channels = any_channels(), syncs = once_in(8) ? any_number(255) : 1 + below(20), level = any_number(1);
@@ -25,11 +32,14 @@ static void madi_write(void)
     if (once_in(12))
         m = below(700);
     for (int k = 0; k < 80; k++)
-        words[k] = even_body() | (draw() & 12u);
-    if (once_in(6) && n > 0)
-        words[below((uint32_t)n)] ^= second_weight((int)below(32));
-    if (once_in(6) && n > 0)
-        words[below((uint32_t)n)] |= 1 + below(3);
+        words[k] = marked_body();
+    if (n > 0) {
+        uint32_t one = below((uint32_t)n), two = below((uint32_t)n);
+        if (once_in(6))
+            words[one] ^= second_weight((int)below(32));
+        if (once_in(6))
+            words[two] |= 1 + below(3);
+    }
     begin("madi_write");
     lent in = lend_in(words, n, 4), out = lend_out(m, 1);
     lampcoil_verdict a = lampcoil_madi_write(channels, in.library, n, syncs, level, out.library, m);
@@ -45,7 +55,7 @@ static void good_frame(spoil_row *r, uint32_t channels, uint32_t active)
     for (uint32_t c = 0; c < channels; c++) {
         if (spread && once_in(16))
             spoil_add_syncs(r, below(4));
-        uint32_t word = c < active ? even_body() | (draw() & 12u) | 2u | (c == 0) : 0;
+        uint32_t word = c < active ? marked_body() | 2u | (c == 0) : 0;
         if (once_in(2000)) /* a wrong bit, first without and then with odd parity */
             word = word ^ second_weight((int)below(32));
         if (once_in(2000))
@@ -73,7 +83,8 @@ static void damage(spoil_row *r)
         break;
     case 4:
         spoil_add_syncs(r, 1 + below(3));
-        spoil_add_bits(r, draw(), (int)below(32));
+        at = draw();
+        spoil_add_bits(r, at, (int)below(32));
         break;
     default: /* a group elsewhere */
         for (uint32_t k = 0; k < 5; k++)

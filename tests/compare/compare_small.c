@@ -33,8 +33,10 @@ static void draw_status(uint8_t status[32])
     random_octets(status, 32);
     if (!once_in(4))
         random_status(status);
-    if (once_in(4))
-        status[below(24)] ^= (uint8_t)second_weight((int)below(8));
+    if (once_in(4)) {
+        uint32_t at = below(24);
+        status[at] ^= (uint8_t)second_weight((int)below(8));
+    }
 }
 
 static void status_entries(void)
