@@ -1,3 +1,4 @@
+-- `lampcoil::lampcoil_body_read` meets its contract: the fields case by case; a sample of 24 bits fits in 32. Assumes nothing.
 use mathlib.Core.Path.{sym, _∙_}
 use mir.Syntax.{w32}
 use mir.Val.{SFits}
@@ -10,23 +11,16 @@ use Rattle.subframe.proofs.BodyTrips.{read-in}
 use borrow.Author.Needs.{needs}
 use Rattle.lampcoil.proofs.lampcoil_body_read.Statement.{statement}
 use Rattle.lampcoil.proofs.lampcoil_body_read.Tie as tie
-use Rattle.lampcoil.proofs.lampcoil_body_read.Reads as reads
-use Rattle.lampcoil.proofs.lampcoil_body_read.Lts as lts
-use Rattle.subframe.proofs.read_body.Reads as read-body-reads
 
--- src/lib.rt:65:11
 read-body-requires : tie.Need-read-body-requires
 read-body-requires c κs = search needs
 
--- src/lib.rt:66:32
 enum-known-sample : tie.Need-enum-known-sample
 enum-known-sample c = search needs
 
--- src/lib.rt:74:33
 enum-known-number : tie.Need-enum-known-number
 enum-known-number c = search needs
 
--- src/lib.rt:61:1
 returns : tie.Need-returns
 returns c =
     let told = sym (c .before .before .before .read-body .ensures) ∙ c .before .sample .given .1 in
@@ -35,7 +29,6 @@ returns c =
     let fits : SFits w32 (g .0) = record { sfits = omega (arith, small) } in
     rw (toZ-ofZ fits, told)
 
--- src/lib.rt:61:1
 returns-2 : tie.Need-returns-2
 returns-2 c = rw (sym (c .before .before .before .read-body .ensures) ∙ c .before .number .given .1)
 

@@ -1,22 +1,16 @@
+-- `lampcoil::lampcoil_hd_next_dbn` meets its contract: it hands on the answer of the call. Assumes nothing.
 use Rattle.lampcoil.specs.Packets.{dbnAnswer}
 use mathlib.Core.Path.{_∙_, ap}
 use borrow.Author.Needs.{needs}
 use Rattle.lampcoil.proofs.lampcoil_hd_next_dbn.Statement.{statement}
 use Rattle.lampcoil.proofs.lampcoil_hd_next_dbn.Tie as tie
-use Rattle.lampcoil.proofs.lampcoil_hd_next_dbn.Reads as reads
-use Rattle.lampcoil.proofs.lampcoil_hd_next_dbn.Lts as lts
-use Rattle.hd.proofs.next_dbn.Reads as next-dbn-reads
-use Rattle.lampcoil.proofs.answers.dbn_answer.Reads as dbn-answer-reads
 
--- src/lib.rt:356:25
 next-dbn-requires : tie.Need-next-dbn-requires
 next-dbn-requires c κs = search needs
 
--- src/lib.rt:356:5
 dbn-answer-requires : tie.Need-dbn-answer-requires
 dbn-answer-requires c κs = search needs
 
--- src/lib.rt:352:1
 returns : tie.Need-returns
 returns c = c .dbn-answer .ensures ∙ ap dbnAnswer (c .before .next-dbn .ensures)
 

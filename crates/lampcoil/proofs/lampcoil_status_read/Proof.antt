@@ -1,3 +1,4 @@
+-- `lampcoil::lampcoil_status_read` meets its contract: bytes 0 to 2 of 24 octets, or of another number of them what a refusal comes with. Assumes nothing.
 use Rattle.lampcoil.specs.Status.{statusAnswer, statusRead}
 use Rattle.status_codes.specs.Numbers.{codesOf}
 use Rattle.status.specs.Meaning.{meaningOf}
@@ -6,45 +7,32 @@ use mathlib.Core.Path.{_∙_, ap}
 use borrow.Author.Needs.{needs}
 use Rattle.lampcoil.proofs.lampcoil_status_read.Statement.{statement}
 use Rattle.lampcoil.proofs.lampcoil_status_read.Tie as tie
-use Rattle.lampcoil.proofs.lampcoil_status_read.Reads as reads
-use Rattle.lampcoil.proofs.lampcoil_status_read.Lts as lts
-use Rattle.lampcoil.proofs.answers.status_answer.Reads as status-answer-reads
-use Rattle.status_codes.proofs.meaning_codes.Reads as meaning-codes-reads
 
--- src/lib.rt:202:33
 meaning-codes-requires : tie.Need-meaning-codes-requires
 meaning-codes-requires c κs = search needs
 
--- src/lib.rt:202:9
 status-answer-requires : tie.Need-status-answer-requires
 status-answer-requires c κs = search needs
 
--- src/lib.rt:202:9
 returns : tie.Need-returns
 unfolding statusRead codesOf meaningOf
 returns c = rw (ne-eqb _ _ (c .before .before .if1 .taken)) (c .status-answer .ensures ∙ ap (statusAnswer 1) (c .before .meaning-codes .ensures))
 
--- src/lib.rt:204:44
 shared-slice-read-meaning-codes : tie.Need-shared-slice-read-meaning-codes
 shared-slice-read-meaning-codes c = search needs
 
--- src/lib.rt:204:55
 shared-slice-read-meaning-codes-2 : tie.Need-shared-slice-read-meaning-codes-2
 shared-slice-read-meaning-codes-2 c = search needs
 
--- src/lib.rt:204:66
 shared-slice-read-meaning-codes-3 : tie.Need-shared-slice-read-meaning-codes-3
 shared-slice-read-meaning-codes-3 c = search needs
 
--- src/lib.rt:204:22
 meaning-codes-requires-2 : tie.Need-meaning-codes-requires-2
 meaning-codes-requires-2 c κs = search needs
 
--- src/lib.rt:204:5
 status-answer-requires-2 : tie.Need-status-answer-requires-2
 status-answer-requires-2 c κs = search needs
 
--- src/lib.rt:197:1
 returns-2 : tie.Need-returns-2
 unfolding statusRead
 returns-2 c = rw (eq-eqb _ _ (c .before .before .before .before .before .if1 .left)) (c .status-answer2 .ensures ∙ ap (statusAnswer 0) (c .before .meaning-codes2 .ensures))

@@ -1,28 +1,22 @@
+-- `lampcoil::lampcoil_status_right` meets its contract: the length, and what `codes` answers. Assumes nothing.
 use mathlib.Core.Path.{_∙_, sym}
 use borrow.Author.Tests.{eq-eqb, ne-eqb}
 use Rattle.lampcoil.specs.Codes.{rightAnswer}
 use borrow.Author.Needs.{needs}
 use Rattle.lampcoil.proofs.lampcoil_status_right.Statement.{statement}
 use Rattle.lampcoil.proofs.lampcoil_status_right.Tie as tie
-use Rattle.lampcoil.proofs.lampcoil_status_right.Reads as reads
-use Rattle.lampcoil.proofs.lampcoil_status_right.Lts as lts
-use Rattle.codes.proofs.crcc_right.Reads as crcc-right-reads
 
--- src/lib.rt:119:9
 returns : tie.Need-returns
 unfolding rightAnswer
 returns c = rw (ne-eqb _ _ (c .if1 .taken))
 
--- src/lib.rt:125:8
 crcc-right-requires : tie.Need-crcc-right-requires
 crcc-right-requires c κs = search needs
 
--- src/lib.rt:126:9
 returns-2 : tie.Need-returns-2
 unfolding rightAnswer
 returns-2 c = rw (eq-eqb _ _ (c .before .before .if1 .left), sym (c .before .crcc-right .ensures) ∙ c .if2 .taken)
 
--- src/lib.rt:114:1
 returns-3 : tie.Need-returns-3
 unfolding rightAnswer
 returns-3 c = rw (eq-eqb _ _ (c .before .before .if1 .left), sym (c .before .crcc-right .ensures) ∙ c .if2 .left)

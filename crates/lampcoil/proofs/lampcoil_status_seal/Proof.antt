@@ -1,25 +1,19 @@
+-- `lampcoil::lampcoil_status_seal` meets its contract: the length, and what `codes` answers. Assumes nothing.
 use Rattle.codes.specs.Crcc.{sealPlace}
 use Rattle.lampcoil.specs.Codes.{sealAnswer}
 use borrow.Author.Needs.{needs}
 use Rattle.lampcoil.proofs.lampcoil_status_seal.Statement.{statement}
 use Rattle.lampcoil.proofs.lampcoil_status_seal.Tie as tie
-use Rattle.lampcoil.proofs.lampcoil_status_seal.Reads as reads
-use Rattle.lampcoil.proofs.lampcoil_status_seal.Lts as lts
-use Rattle.codes.proofs.seal.Reads as seal-reads
 
--- src/lib.rt:99:9
 seal-requires : tie.Need-seal-requires
 seal-requires c κs = search needs
 
--- src/lib.rt:101:17
 cast-t5 : tie.Need-cast-t5
 cast-t5 c = search needs
 
--- src/lib.rt:94:1
 same-length : tie.Need-same-length
 same-length c = search needs
 
--- src/lib.rt:94:1
 returns : tie.Need-returns
 unfolding sealAnswer sealPlace
 returns c =

@@ -1,22 +1,17 @@
+-- `lampcoil::answers::dbn_answer` meets its contract: case by case. Assumes nothing.
 use borrow.Author.Needs.{needs}
 use Rattle.lampcoil.proofs.answers.dbn_answer.Statement.{statement}
 use Rattle.lampcoil.proofs.answers.dbn_answer.Tie as tie
-use Rattle.lampcoil.proofs.answers.dbn_answer.Reads as reads
-use Rattle.lampcoil.proofs.answers.dbn_answer.Lts as lts
 
--- src/answers.rt:239:29
 enum-known-a : tie.Need-enum-known-a
 enum-known-a c = search needs
 
--- src/answers.rt:244:34
 enum-known-a-2 : tie.Need-enum-known-a-2
 enum-known-a-2 c = search needs
 
--- src/answers.rt:235:1
 returns : tie.Need-returns
 returns c = rw (c .before .a .given .1)
 
--- src/answers.rt:235:1
 returns-2 : tie.Need-returns-2
 returns-2 c = rw (c .before .a2 .given .1)
 

@@ -1,22 +1,17 @@
+-- `lampcoil::answers::frame_read` meets its contract: case by case. Assumes nothing.
 use borrow.Author.Needs.{needs}
 use Rattle.lampcoil.proofs.answers.frame_read.Statement.{statement}
 use Rattle.lampcoil.proofs.answers.frame_read.Tie as tie
-use Rattle.lampcoil.proofs.answers.frame_read.Reads as reads
-use Rattle.lampcoil.proofs.answers.frame_read.Lts as lts
 
--- src/lib.rt:271:39
 enum-known-a : tie.Need-enum-known-a
 enum-known-a c = search needs
 
--- src/lib.rt:277:42
 enum-known-a-2 : tie.Need-enum-known-a-2
 enum-known-a-2 c = search needs
 
--- src/lib.rt:267:1
 returns : tie.Need-returns
 returns c = rw (c .before .a .given .1)
 
--- src/lib.rt:267:1
 returns-2 : tie.Need-returns-2
 returns-2 c = rw (c .before .a2 .given .1)
 

@@ -1,22 +1,17 @@
+-- `lampcoil::answers::packet_written` meets its contract: case by case. Assumes nothing.
 use borrow.Author.Needs.{needs}
 use Rattle.lampcoil.proofs.answers.packet_written.Statement.{statement}
 use Rattle.lampcoil.proofs.answers.packet_written.Tie as tie
-use Rattle.lampcoil.proofs.answers.packet_written.Reads as reads
-use Rattle.lampcoil.proofs.answers.packet_written.Lts as lts
 
--- src/answers.rt:183:43
 enum-told : tie.Need-enum-told
 enum-told c = search needs
 
--- src/answers.rt:187:42
 enum-known-a : tie.Need-enum-known-a
 enum-known-a c = search needs
 
--- src/answers.rt:179:1
 returns : tie.Need-returns
 returns c = rw (c .enum-told .given .1)
 
--- src/answers.rt:179:1
 returns-2 : tie.Need-returns-2
 returns-2 c = rw (c .before .a .given .1)
 
