@@ -20,7 +20,7 @@ use Rattle.anc.proofs.SumLaws.{word-lt, check-lt}
 use Rattle.subframe.specs.Body.{slots}
 use Rattle.hd_lanes.specs.Lanes.{failing}
 use Rattle.hd_packet.specs.Packet.{octetsOf, codedWords, packetOf, did, channelOctets, dataOctets, bodyAt, bodiesIn}
-use Rattle.hd_packet.proofs.PacketLaws.{length-coded, length-packet, packet-at, packet-last}
+use Rattle.hd_packet.proofs.PacketLaws.{length-coded, length-packet, packet-at, packet-last, each-group}
 use Rattle.hd_write.specs.Write.{writeAnswer, packetWritten}
 use Rattle.hd_write.specs.declared.WriteAnswer.the-variants.{Written}
 use Rattle.hd_read.specs.Read.{groupOf, wrongHead, wrongWord, sumRight, wrongSpare, oddChannel, fieldsIn, octetsRead, readAnswer}
@@ -72,21 +72,11 @@ module _ (xs : List ℕ) (h : length xs ≡ 30) (b : Below (2 ^ 8) xs) where
 
 did-word : (group : ℕ) → 1 ≤ group → group ≤ 4 → wordOf (did group % 2 ^ 8) ≡ did group
 unfolding did wordOf bits count
-did-word zero h l = absurd (omega arith)
-did-word (suc zero) h l = refl
-did-word (suc (suc zero)) h l = refl
-did-word (suc (suc (suc zero))) h l = refl
-did-word (suc (suc (suc (suc zero)))) h l = refl
-did-word (suc (suc (suc (suc (suc n))))) h l = absurd (omega arith)
+did-word = each-group (λ g. wordOf (did g % 2 ^ 8)) did tt
 
 did-group : (group : ℕ) → 1 ≤ group → group ≤ 4 → groupOf (did group) ≡ group
 unfolding did groupOf
-did-group zero h l = absurd (omega arith)
-did-group (suc zero) h l = refl
-did-group (suc (suc zero)) h l = refl
-did-group (suc (suc (suc zero))) h l = refl
-did-group (suc (suc (suc (suc zero)))) h l = refl
-did-group (suc (suc (suc (suc (suc n))))) h l = absurd (omega arith)
+did-group = each-group (λ g. groupOf (did g)) (λ g. g) tt
 
 dc-word : wordOf 0x18 ≡ 0x218
 unfolding wordOf bits count

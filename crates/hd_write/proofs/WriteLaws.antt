@@ -2,9 +2,8 @@
 use mathlib.Core.Path.{_≡_, refl, sym, ap, _∙_}
 use mathlib.Core.Bool.{true, false, not, _&&_}
 use mathlib.Core.List.{List, [], _∷_, _++_}
-use Prim.Native.Nat.{ℕ, zero, suc, _-_, _/_, _%_, _^_, _≤_, _<_}
+use Prim.Native.Nat.{ℕ, _-_, _/_, _%_, _^_, _≤_, _<_}
 use native.Mathlib.Nat.{add-zero}
-use native.Mathlib.Omega.{arith}
 use borrow.Author.Tests.{eq-eqb, ne-eqb, leb-true}
 use lib.Dec.{eqb, leb}
 use lib.ListN.{length, getD, take, replicate, length-append}
@@ -20,6 +19,7 @@ use Rattle.hd_lanes.specs.Lanes.{checkOctets, withChecks}
 use Rattle.hd_lanes.proofs.CheckLaws.{length-checks}
 use Rattle.hd_packet.specs.Packet.{did, channelOctets, withZ, dataOctets}
 use Rattle.hd_packet.specs.Inner.{packetLaid}
+use Rattle.hd_packet.proofs.PacketLaws.{each-group}
 use Rattle.hd_write.specs.declared.WriteAnswer.{WriteAnswer}
 use Rattle.hd_write.specs.declared.WriteAnswer.the-variants.{Written, Refused}
 use Rattle.hd_write.specs.Write.{inRanges, oddBody, lowBody, writeAnswer, packetWritten, ifWritten, wordsWritten}
@@ -71,12 +71,7 @@ ranges group dbn phase ck12 z1 z2 e =
 
 pub did-octet : (group : ℕ) → 1 ≤ group → group ≤ 4 → 232 - group ≡ did group % 2 ^ 8
 unfolding did
-did-octet zero h l = absurd (omega arith)
-did-octet (suc zero) h l = refl
-did-octet (suc (suc zero)) h l = refl
-did-octet (suc (suc (suc zero))) h l = refl
-did-octet (suc (suc (suc (suc zero)))) h l = refl
-did-octet (suc (suc (suc (suc (suc n))))) h l = absurd (omega arith)
+did-octet = each-group (λ g. 232 - g) (λ g. did g % 2 ^ 8) tt
 
 -- ---- a channel without Z
 

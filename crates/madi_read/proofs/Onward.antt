@@ -1,20 +1,14 @@
--- Laws of channels and syncs on end: the bits that a line carries after a level on the line itself, and one piece more. Assumes nothing.
-use mathlib.Core.Path.{_≡_, refl, sym, ap, ap₂, _∙_}
+-- Laws of channels and syncs on end: one piece more of a frame. Assumes nothing.
+use mathlib.Core.Path.{_≡_, refl, sym, ap, _∙_}
 use mathlib.Core.List.{List, [], _∷_, _++_}
-use Prim.Native.Nat.{ℕ, _+_, _*_, _-_, _/_, _%_, _^_, _≤_, _<_}
-use native.Mathlib.Nat.{add-comm, div-one, mod-lt, mod-eq-of-lt}
+use Prim.Native.Nat.{ℕ, _+_, _-_, _/_, _%_, _^_, _≤_, _<_}
+use native.Mathlib.Nat.{div-one}
 use native.Mathlib.Omega.{arith}
 use borrow.Author.Tests.{lt-ltb, le-ltb, le-leb, eq-eqb, ne-eqb}
-use lib.Bits.{bitXor, xor-mod}
 use lib.ListN.{length}
-use lib.Pow.{pow-pos, field, mod-mod-pow}
-use Rattle.bits.specs.Row.{Row, odd, big}
+use Rattle.bits.specs.Row.{Row, big}
 use Rattle.bits.specs.Window.{part, window}
-use Rattle.bits.specs.Pack.{symbols}
 use Rattle.bits.proofs.Windows.{length-part, window-high}
-use Rattle.bits.proofs.Packing.{length-chain, highest}
-use Rattle.line.specs.Nrzi.{changes}
-use Rattle.line.proofs.NrziLaws.{changes-window, before-later}
 use Rattle.madi_code.specs.Groups.{sync}
 use Rattle.madi_code.specs.Channels.{channelRow, channelOf}
 use Rattle.madi_frame.specs.Frame.{boundary}
@@ -24,24 +18,6 @@ use Rattle.madi_piece.specs.Reader.{pieceAt}
 use Rattle.madi_read.specs.Inner.{Plain, Reached}
 use Rattle.madi_piece.specs.declared.Piece.the-variants.{Sync, Slot}
 use Rattle.madi_read.proofs.Walking.{read-step}
-
--- the lowest n digits of a number against itself moved by one go by its lowest n + 1
-lowest : (x n : ℕ) → bitXor x (x / 2) % 2 ^ n ≡ bitXor (x % 2 ^ (n + 1)) (x % 2 ^ (n + 1) / 2) % 2 ^ n
-lowest x n =
-    let y : ℕ = x % 2 ^ (n + 1) in
-    let same : x % 2 ^ n ≡ y % 2 ^ n = sym (ap (λ (k : ℕ). x % 2 ^ k % 2 ^ n) (add-comm n 1) ∙ mod-mod-pow x 1 n) in
-    let moved : x / 2 % 2 ^ n ≡ y / 2 % 2 ^ n = sym (ap (λ (z : ℕ). z % 2 ^ n) (field x n 1) ∙ mod-eq-of-lt (mod-lt (x / 2) (pow-pos n))) in
-    xor-mod x (x / 2) n ∙ ap₂ bitXor same moved ∙ sym (xor-mod y (y / 2) n)
-
--- n + 1 levels on the line are n bits that it carries, whatever the level before it
-pub bits-later : (level : ℕ) (line : List ℕ) (at n x : ℕ) → 0 < at → at + n ≤ length line * 8
-    → x % 2 ^ (n + 1) ≡ window (symbols line) (at - 1) (n + 1) → bitXor x (x / 2) % 2 ^ n ≡ window (changes (odd level) (symbols line)) at n
-bits-later level line at n x some fits e =
-    let p : at - 1 + 1 ≡ at = omega arith in
-    lowest x n
-    ∙ ap (λ (y : ℕ). bitXor y (y / 2) % 2 ^ n)
-    (e ∙ before-later (odd level) (symbols line) (at - 1) (n + 1) ∙ ap (λ (q : ℕ). window (odd level ∷ symbols line) q (n + 1)) p)
-    ∙ changes-window (odd level) (symbols line) at n (omega (arith, length-chain (highest 8) line))
 
 module _ (r : Row) (channels n s : ℕ) where
   -- no channel begins with a sync

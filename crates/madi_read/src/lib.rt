@@ -1,6 +1,5 @@
 // The MADI reader: what the line carries, a boundary, a frame.
 ghost use mathlib.Core.Path.{_≡_};
-ghost use mathlib.Core.Bool.{true};
 ghost use mathlib.Core.List.{List, _∷_};
 ghost use Prim.Native.Nat.{ℕ, _+_, _*_, _/_, _%_, _-_, _<_, _≤_};
 ghost use lib.ListN.{length, take};
@@ -8,7 +7,6 @@ ghost use Rattle.bits.specs.Row.{odd};
 ghost use Rattle.bits.specs.Window.{window};
 ghost use Rattle.bits.specs.Pack.{symbols};
 ghost use Rattle.line.specs.Nrzi.{changes};
-ghost use Rattle.madi_code.specs.Groups.{sync};
 ghost use Rattle.madi_frame.specs.Frame.{boundary};
 ghost use Rattle.madi_tables.specs.Inner.{Octets};
 ghost use Rattle.madi_piece.specs.Reader.{carried, pieceAt, readRow, readFrame, answerOf, wordsOf, spareZero};
@@ -97,30 +95,12 @@ fn piece_at(
 
 // ---- what most of a frame is, several pieces on end
 
-fn wide(x: u8) -> u64
-    ensures { λ r. ⌜ (r ≡ x) × (r < 256) ⌝ }
+// The word of the 40 bits from bit `at` on, where they are an active channel, not the first of its frame, and even; else 0.
+fn plain(table: &[u16; 1024], line: &[u8], level: u32, at: usize) -> u32
+    requires { ⌜ Octets (now table) × (level ≤ 1) × (at + 40 ≤ length (now line) * 8) ⌝ }
+    ensures { λ r. ⌜ (0 < r → (bits : ℕ) → bits ≤ length (now (line .entry)) * 8 → at + 40 ≤ bits → Plain (carried level bits (now (line .entry))) at r) ⌝ }
 {
-    x as u64
-}
-
-// Three octets from octet j on, the first highest.
-fn three(line: &[u8], j: usize) -> u64
-    requires { ⌜ j + 3 ≤ length (now line) ⌝ }
-    ensures { λ r. ⌜ r ≡ window (symbols (now (line .entry))) (j * 8) 24 ⌝ }
-{
-    let a = wide(line[j]);
-    let b = wide(line[j + 1]);
-    let c = wide(line[j + 2]);
-    (a * 256 + b) * 256 + c
-}
-
-// The word of the five octets from octet j on, where they are an active channel, not the first of its frame, and even; else 0.
-fn plain(table: &[u16; 1024], line: &[u8], j: usize) -> u32
-    requires { ⌜ Octets (now table) × (0 < j) × (j + 5 ≤ length (now line)) ⌝ }
-    ensures { λ r. ⌜ (0 < r → (level bits : ℕ) → bits ≤ length (now (line .entry)) * 8 → j * 8 + 40 ≤ bits → Plain (carried level bits (now (line .entry))) (j * 8) r) ⌝ }
-{
-    let x = three(line, j - 1) * 0x100_0000 + three(line, j + 2);
-    let w = madi_lookup::word_by(table, (x ^ (x / 2)) % 0x100_0000_0000);
+    let w = madi_lookup::word_by(table, bits_at(line, level, at, 40));
     if w % 4 == 2 {
         if madi_frame::is_even(w as u32) {
             return w as u32;
@@ -129,10 +109,11 @@ fn plain(table: &[u16; 1024], line: &[u8], j: usize) -> u32
     0
 }
 
-// Active channels on end, whole on octets, after none that is not active: the count of channels then. Their words go to held.
+// Active channels on end, after none that is not active: the count of channels then. Their words go to held.
 fn channels_on(
     table: &[u16; 1024],
     line: &[u8],
+    level: u32,
     channels: u32,
     bits: u32,
     n: u32,
@@ -140,62 +121,45 @@ fn channels_on(
     s: u32,
     held: &mut [u32],
 ) -> u32
-    requires { ⌜ Octets (now table) × (bits ≤ 5110) × (bits ≤ length (now line) * 8) × (channels ≤ 64) × (length (now held) ≡ 64) × (n ≤ channels) × (s ≤ 255) × (boundary n s ≤ bits) ⌝ }
-    ensures { λ r. ⌜ (n ≤ r) × (r ≤ channels) × (boundary r s ≤ bits) × (length (now (held .exit)) ≡ 64) × ((level : ℕ) → Reached (carried level bits (now (line .entry))) channels n active s (take n (now (held .entry))) r (active + (r - n)) s (take r (now (held .exit)))) ⌝ }
+    requires { ⌜ Octets (now table) × (level ≤ 1) × (bits ≤ 5110) × (bits ≤ length (now line) * 8) × (channels ≤ 64) × (length (now held) ≡ 64) × (n ≤ channels) × (s ≤ 255) × (boundary n s ≤ bits) ⌝ }
+    ensures { λ r. ⌜ (n ≤ r) × (r ≤ channels) × (boundary r s ≤ bits) × (length (now (held .exit)) ≡ 64) × Reached (carried level bits (now (line .entry))) channels n active s (take n (now (held .entry))) r (active + (r - n)) s (take r (now (held .exit))) ⌝ }
 {
     let mut m = n;
     if 0 < n {
         if n == active {
-            if s % 4 == 0 {
-                while m < channels {
-                    let at = 40 * m + 10 * s;
-                    if bits < at + 40 {
-                        return m;
-                    }
-                    let w = plain(table, line, (at / 8) as usize);
-                    if w == 0 {
-                        return m;
-                    }
-                    held[m as usize] = w - 2;
-                    m += 1;
+            while m < channels {
+                let at = 40 * m + 10 * s;
+                if bits < at + 40 {
+                    return m;
                 }
+                let w = plain(table, line, level, at as usize);
+                if w == 0 {
+                    return m;
+                }
+                held[m as usize] = w - 2;
+                m += 1;
             }
         }
     }
     m
 }
 
-// Whether a sync stands at bit `at`, which is not the first; false too where the line ends within three octets.
-fn sync_at(line: &[u8], at: usize) -> bool
-    requires { ⌜ (0 < at) × (at < 5110) ⌝ }
-    ensures { λ r. ⌜ (r ≡ true → (level : ℕ) → window (changes (odd level) (symbols (now (line .entry)))) at 10 ≡ sync) ⌝ }
-{
-    let j = (at - 1) / 8;
-    if j + 3 <= line.len() {
-        let x = three(line, j) >> (13 - (at - 1) % 8);
-        return (x ^ (x / 2)) % 1024 == 0b1100010001;
-    }
-    false
-}
-
 // Syncs on end, after all channels: the count of syncs then.
-fn syncs_on(line: &[u8], channels: u32, bits: u32, n: u32, s: u32) -> u32
-    requires { ⌜ (bits ≤ 5110) × (bits ≤ length (now line) * 8) × (n ≤ channels) × (channels ≤ 64) × (s ≤ 255) × (boundary n s ≤ bits) ⌝ }
-    ensures { λ r. ⌜ (s ≤ r) × (r ≤ 255) × (boundary n r ≤ bits) × ((level active : ℕ) (words : List ℕ) → Reached (carried level bits (now (line .entry))) channels n active s words n active r words) ⌝ }
+fn syncs_on(line: &[u8], level: u32, channels: u32, bits: u32, n: u32, s: u32) -> u32
+    requires { ⌜ (level ≤ 1) × (bits ≤ 5110) × (bits ≤ length (now line) * 8) × (n ≤ channels) × (channels ≤ 64) × (s ≤ 255) × (boundary n s ≤ bits) ⌝ }
+    ensures { λ r. ⌜ (s ≤ r) × (r ≤ 255) × (boundary n r ≤ bits) × ((active : ℕ) (words : List ℕ) → Reached (carried level bits (now (line .entry))) channels n active s words n active r words) ⌝ }
 {
     let mut t = s;
-    if 0 < n {
-        if n == channels {
-            while t < 255 {
-                let at = 40 * n + 10 * t;
-                if bits < at + 10 {
-                    return t;
-                }
-                if sync_at(line, at as usize) {
-                    t += 1;
-                } else {
-                    return t;
-                }
+    if n == channels {
+        while t < 255 {
+            let at = 40 * n + 10 * t;
+            if bits < at + 10 {
+                return t;
+            }
+            if bits_at(line, level, at as usize, 10) == 0b1100010001 {
+                t += 1;
+            } else {
+                return t;
             }
         }
     }
@@ -213,10 +177,10 @@ fn walk(line: &[u8], level: u32, channels: u32, bits: u32, held: &mut [u32]) -> 
     let mut active: u32 = 0;
     let mut s: u32 = 0;
     loop {
-        let m = channels_on(&table, line, channels, bits, n, active, s, held);
+        let m = channels_on(&table, line, level, channels, bits, n, active, s, held);
         active += m - n;
         n = m;
-        s = syncs_on(line, channels, bits, n, s);
+        s = syncs_on(line, level, channels, bits, n, s);
         let p = piece_at(&table, line, level, channels, bits, n, active, s);
         match p {
             Piece::End => {

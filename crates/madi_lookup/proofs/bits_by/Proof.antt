@@ -1,5 +1,6 @@
 -- `madi_lookup::bits_by` meets its contract: four loads, side by side. Assumes nothing.
 use native.Mathlib.Omega.{arith}
+use Prim.Native.Nat.{_<_}
 use borrow.Author.Needs.{needs}
 use Rattle.madi_lookup.proofs.bits_by.Statement.{statement}
 use Rattle.madi_lookup.proofs.bits_by.Tie as tie
@@ -52,23 +53,28 @@ element-copy-out-wide-4 c = search needs
 wide-requires-4 : tie.Need-wide-requires-4
 wide-requires-4 c κs = search needs
 
+-- each part is below 65536
+small : (c : tie.After-wide4) → (c .before .before .before .before .before .before .wide .result < 65536) × (c .before .before .before .before .wide2 .result < 65536)
+    × (c .before .before .wide3 .result < 65536) × (c .wide4 .result < 65536)
+small c = (c .before .before .before .before .before .before .wide .ensures .1, c .before .before .before .before .wide2 .ensures .1, c .before .before .wide3 .ensures .1, c .wide4 .ensures .1)
+
 mul-result : tie.Need-mul-result
-mul-result c = omega (arith, c .before .before .before .before .before .before .wide .ensures .1, c .before .before .before .before .wide2 .ensures .1, c .before .before .wide3 .ensures .1, c .wide4 .ensures .1)
+mul-result c = omega (arith, small c)
 
 mul-result-2 : tie.Need-mul-result-2
-mul-result-2 c = omega (arith, c .before .before .before .before .before .before .wide .ensures .1, c .before .before .before .before .wide2 .ensures .1, c .before .before .wide3 .ensures .1, c .wide4 .ensures .1)
+mul-result-2 c = omega (arith, small c)
 
 add-result : tie.Need-add-result
-add-result c = omega (arith, c .before .before .before .before .before .before .wide .ensures .1, c .before .before .before .before .wide2 .ensures .1, c .before .before .wide3 .ensures .1, c .wide4 .ensures .1)
+add-result c = omega (arith, small c)
 
 mul-result-3 : tie.Need-mul-result-3
-mul-result-3 c = omega (arith, c .before .before .before .before .before .before .wide .ensures .1, c .before .before .before .before .wide2 .ensures .1, c .before .before .wide3 .ensures .1, c .wide4 .ensures .1)
+mul-result-3 c = omega (arith, small c)
 
 add-result-2 : tie.Need-add-result-2
-add-result-2 c = omega (arith, c .before .before .before .before .before .before .wide .ensures .1, c .before .before .before .before .wide2 .ensures .1, c .before .before .wide3 .ensures .1, c .wide4 .ensures .1)
+add-result-2 c = omega (arith, small c)
 
 add-result-3 : tie.Need-add-result-3
-add-result-3 c = omega (arith, c .before .before .before .before .before .before .wide .ensures .1, c .before .before .before .before .wide2 .ensures .1, c .before .before .wide3 .ensures .1, c .wide4 .ensures .1)
+add-result-3 c = omega (arith, small c)
 
 returns : tie.Need-returns
 returns c = rw (c .before .before .before .before .before .before .wide .ensures .0, c .before .before .before .before .wide2 .ensures .0, c .before .before .wide3 .ensures .0, c .wide4 .ensures .0)

@@ -1,7 +1,7 @@
 -- `madi_read::channels_on` meets its contract: each turn is a piece of the definition's reading. Assumes nothing.
-use mathlib.Core.Path.{_≡_, sym, ap, subst, _∙_}
+use mathlib.Core.Path.{_≡_, ap, _∙_}
 use mathlib.Core.List.{List}
-use Prim.Native.Nat.{ℕ, _+_, _*_, _-_, _/_, _%_, _≤_, _<_}
+use Prim.Native.Nat.{ℕ, _+_, _-_, _≤_, _<_}
 use native.Mathlib.Numerals.{add-one}
 use native.Mathlib.Omega.{arith}
 use borrow.Author.Needs.{needs}
@@ -16,22 +16,28 @@ use Rattle.madi_read.proofs.Onward.{channel-on}
 use Rattle.madi_read.proofs.channels_on.Statement.{statement}
 use Rattle.madi_read.proofs.channels_on.Tie as tie
 
+-- what is promised of the count r and of what is held then
+abbrev Gone : List ℕ → ℕ → ℕ → ℕ → ℕ → ℕ → ℕ → List ℕ → ℕ → List ℕ → Type 0
+Gone line level channels bits n active s held₀ r held =
+    (n ≤ r) × (r ≤ channels) × (boundary r s ≤ bits) × (length held ≡ 64)
+    × Reached (carried level bits line) channels n active s (take n held₀) r (active + (r - n)) s (take r held)
+
 abbrev Inv-loop : tie.InvT-loop
-Inv-loop table line channels bits n active s held₀ m₀ held m =
+Inv-loop table line level channels bits n active s held₀ m₀ held m =
     (n ≤ m) × (m ≤ channels) × (boundary m s ≤ bits) × (length held ≡ 64)
-    × ((level : ℕ) → Reached (carried level bits line) channels n active s (take n held₀) m m s (take m held))
+    × Reached (carried level bits line) channels n active s (take n held₀) m m s (take m held)
 
 abbrev μ-loop : tie.MeasureT-loop
-μ-loop table line channels bits n active s held₀ m₀ held m = channels - m
+μ-loop table line level channels bits n active s held₀ m₀ held m = channels - m
 
 loop-holds : tie.Need-loop-holds Inv-loop μ-loop
 loop-holds c =
-    let a = c .before .before .before .before .before .args in (
+    let a = c .before .before .before .before .args in (
       omega arith,
       omega arith,
       omega arith,
       omega arith,
-      λ level. ap (λ (k : ℕ). readFrom (carried level (a .bits) (a .line .now)) (a .channels) (a .channels + 256 - (a .n + a .s)) (a .n) k (a .s) (take (a .n) (a .held .now))) (c .before .if2 .taken),
+      ap (λ (k : ℕ). readFrom (carried (a .level) (a .bits) (a .line .now)) (a .channels) (a .channels + 256 - (a .n + a .s)) (a .n) k (a .s) (take (a .n) (a .held .now))) (c .if2 .taken),
     )
 
 mul-at : tie.Need-mul-at Inv-loop μ-loop
@@ -43,23 +49,28 @@ mul-at-2 c = search needs
 add-at : tie.Need-add-at Inv-loop μ-loop
 add-at c = search needs
 
-add-if4 : tie.Need-add-if4 Inv-loop μ-loop
-add-if4 c = search needs
+add-if3 : tie.Need-add-if3 Inv-loop μ-loop
+add-if3 c = search needs
 
 same-length : tie.Need-same-length Inv-loop μ-loop
 same-length c = search needs
 
+-- the turn that leaves the loop
+module _ (l : tie.At-loop Inv-loop μ-loop) where
+  gone : let a = l .before .before .before .before .before .args in
+      Gone (a .line .now) (a .level) (a .channels) (a .bits) (a .n) (a .active) (a .s) (a .held .now) (l .loop .m) (l .loop .held)
+  gone =
+      let a = l .before .before .before .before .before .args in
+      let e : a .active + (l .loop .m - a .n) ≡ l .loop .m = omega (arith, l .before .if2 .taken) in (
+        omega arith,
+        omega arith,
+        omega arith,
+        l .loop .inv .3,
+        ap (λ (k : ℕ). readFrom (carried (a .level) (a .bits) (a .line .now)) (a .channels) (a .channels + 256 - (l .loop .m + a .s)) (l .loop .m) k (a .s) (take (l .loop .m) (l .loop .held))) e ∙ l .loop .inv .4,
+      )
+
 returns : tie.Need-returns Inv-loop μ-loop
-returns c =
-    let l = c .before .before in
-    let a = l .before .before .before .before .before .before .args in
-    let e : a .active + (l .loop .m - a .n) ≡ l .loop .m = omega (arith, l .before .before .if2 .taken) in (
-      omega arith,
-      omega arith,
-      omega arith,
-      l .loop .inv .3,
-      λ level. ap (λ (k : ℕ). readFrom (carried level (a .bits) (a .line .now)) (a .channels) (a .channels + 256 - (l .loop .m + a .s)) (l .loop .m) k (a .s) (take (l .loop .m) (l .loop .held))) e ∙ l .loop .inv .4 level,
-    )
+returns c = gone (c .before .before)
 
 cast-plain : tie.Need-cast-plain Inv-loop μ-loop
 cast-plain c = search needs
@@ -71,39 +82,17 @@ same-length-2 : tie.Need-same-length-2 Inv-loop μ-loop
 same-length-2 c = search needs
 
 returns-2 : tie.Need-returns-2 Inv-loop μ-loop
-returns-2 c =
-    let l = c .before .before .before .before in
-    let a = l .before .before .before .before .before .before .args in
-    let e : a .active + (l .loop .m - a .n) ≡ l .loop .m = omega (arith, l .before .before .if2 .taken) in (
-      omega arith,
-      omega arith,
-      omega arith,
-      l .loop .inv .3,
-      λ level. ap (λ (k : ℕ). readFrom (carried level (a .bits) (a .line .now)) (a .channels) (a .channels + 256 - (l .loop .m + a .s)) (l .loop .m) k (a .s) (take (l .loop .m) (l .loop .held))) e ∙ l .loop .inv .4 level,
-    )
-
--- whole on octets
-whole : (m s : ℕ) → s % 4 ≡ 0 → (40 * m + 10 * s) / 8 * 8 ≡ 40 * m + 10 * s
-whole m s e =
-    let d : 40 * m + 10 * s ≡ 8 * (5 * m + 5 * (s / 4)) = omega arith in
-    ap (λ (x : ℕ). x / 8 * 8) d ∙ eight (5 * m + 5 * (s / 4)) ∙ sym d
-  where
-    eight : (k : ℕ) → 8 * k / 8 * 8 ≡ 8 * k
-    eight k = omega arith
+returns-2 c = gone (c .before .before .before .before)
 
 -- the word that was found
-found : (c : tie.Else5 Inv-loop μ-loop) (level : ℕ)
-    → Plain (carried level (c .before .before .before .before .before .before .before .before .before .before .args .bits) (c .before .before .before .before .before .before .before .before .before .before .args .line .now))
-    (boundary (c .before .before .before .before .loop .m) (c .before .before .before .before .before .before .before .before .before .before .args .s)) (c .before .plain .result)
-found c level =
-    let l = c .before .before .before .before in
-    let a = l .before .before .before .before .before .before .args in
-    let p : (40 * l .loop .m + 10 * a .s) / 8 * 8 ≡ boundary (l .loop .m) (a .s) = whole (l .loop .m) (a .s) (l .before .if3 .taken) in
-    subst (λ (at : ℕ). Plain (carried level (a .bits) (a .line .now)) at (c .before .plain .result)) p
-    (c .before .plain .ensures (omega (arith, c .if5 .left)) level (a .bits) (omega arith) (omega (arith, p, c .before .before .if4 .left)))
+found : (c : tie.Else4 Inv-loop μ-loop) → let l = c .before .before .before .before in let a = l .before .before .before .before .before .args in
+    Plain (carried (a .level) (a .bits) (a .line .now)) (boundary (l .loop .m) (a .s)) (c .before .plain .result)
+found c =
+    let a = c .before .before .before .before .before .before .before .before .before .args in
+    c .before .plain .ensures (omega (arith, c .if4 .left)) (a .bits) (omega arith) (omega (arith, c .before .before .if3 .left))
 
 sub-held : tie.Need-sub-held Inv-loop μ-loop
-sub-held c = omega (arith, found c 0 .1)
+sub-held c = omega (arith, found c .1)
 
 cast-held : tie.Need-cast-held Inv-loop μ-loop
 cast-held c = search needs
@@ -123,7 +112,7 @@ loop-less c = search needs
 loop-again : tie.Need-loop-again Inv-loop μ-loop
 loop-again c =
     let l = c .before .before .before .before in
-    let a = l .before .before .before .before .before .before .args in
+    let a = l .before .before .before .before .before .args in
     let m : ℕ = l .loop .m in
     let w : ℕ = c .before .plain .result in
     let h : m < length (l .loop .held) = omega arith in (
@@ -131,61 +120,38 @@ loop-again c =
       omega arith,
       omega arith,
       length-set (l .loop .held) m (w - 2) ∙ l .loop .inv .3,
-      λ level.
-          let r : Row = carried level (a .bits) (a .line .now) in
+      let r : Row = carried (a .level) (a .bits) (a .line .now) in
           ap (λ (t : List ℕ). readFrom r (a .channels) (a .channels + 256 - (m + 1 + a .s)) (m + 1) (m + 1) (a .s) t)
           (ap (λ (k : ℕ). take k (set (l .loop .held) m (w - 2))) (add-one m) ∙ take-suc-set (l .loop .held) m (w - 2) h)
-          ∙ channel-on r (a .channels) m (a .s) w (omega arith) (omega arith) (omega arith) (omega (arith, length-carried level (a .bits) (a .line .now))) (found c level) (take m (l .loop .held))
-          ∙ l .loop .inv .4 level,
+          ∙ channel-on r (a .channels) m (a .s) w (omega arith) (omega arith) (omega arith) (omega (arith, length-carried (a .level) (a .bits) (a .line .now))) (found c) (take m (l .loop .held))
+          ∙ l .loop .inv .4,
     )
 
 same-length-3 : tie.Need-same-length-3 Inv-loop μ-loop
 same-length-3 c = search needs
 
 returns-3 : tie.Need-returns-3 Inv-loop μ-loop
-returns-3 c =
-    let l = c .before in
-    let a = l .before .before .before .before .before .before .args in
-    let e : a .active + (l .loop .m - a .n) ≡ l .loop .m = omega (arith, l .before .before .if2 .taken) in (
-      omega arith,
-      omega arith,
-      omega arith,
-      l .loop .inv .3,
-      λ level. ap (λ (k : ℕ). readFrom (carried level (a .bits) (a .line .now)) (a .channels) (a .channels + 256 - (l .loop .m + a .s)) (l .loop .m) k (a .s) (take (l .loop .m) (l .loop .held))) e ∙ l .loop .inv .4 level,
-    )
+returns-3 c = gone (c .before)
+
+-- nothing was looked at
+module _ (b : tie.After-slice-known Inv-loop μ-loop) where
+  stays : let a = b .before .before .args in
+      Gone (a .line .now) (a .level) (a .channels) (a .bits) (a .n) (a .active) (a .s) (a .held .now) (a .n) (a .held .now)
+  stays =
+      let a = b .before .before .args in
+      let e : a .active + (a .n - a .n) ≡ a .active = omega arith in (
+        omega arith,
+        omega arith,
+        omega arith,
+        omega arith,
+        ap (λ (k : ℕ). readFrom (carried (a .level) (a .bits) (a .line .now)) (a .channels) (a .channels + 256 - (a .n + a .s)) (a .n) k (a .s) (take (a .n) (a .held .now))) e,
+      )
 
 returns-4 : tie.Need-returns-4 Inv-loop μ-loop
-returns-4 c =
-    let a = c .before .before .before .before .before .args in
-    let e : a .active + (a .n - a .n) ≡ a .active = omega arith in (
-      omega arith,
-      omega arith,
-      omega arith,
-      omega arith,
-      λ level. ap (λ (k : ℕ). readFrom (carried level (a .bits) (a .line .now)) (a .channels) (a .channels + 256 - (a .n + a .s)) (a .n) k (a .s) (take (a .n) (a .held .now))) e,
-    )
+returns-4 c = stays (c .before .before)
 
 returns-5 : tie.Need-returns-5 Inv-loop μ-loop
-returns-5 c =
-    let a = c .before .before .before .before .args in
-    let e : a .active + (a .n - a .n) ≡ a .active = omega arith in (
-      omega arith,
-      omega arith,
-      omega arith,
-      omega arith,
-      λ level. ap (λ (k : ℕ). readFrom (carried level (a .bits) (a .line .now)) (a .channels) (a .channels + 256 - (a .n + a .s)) (a .n) k (a .s) (take (a .n) (a .held .now))) e,
-    )
-
-returns-6 : tie.Need-returns-6 Inv-loop μ-loop
-returns-6 c =
-    let a = c .before .before .before .args in
-    let e : a .active + (a .n - a .n) ≡ a .active = omega arith in (
-      omega arith,
-      omega arith,
-      omega arith,
-      omega arith,
-      λ level. ap (λ (k : ℕ). readFrom (carried level (a .bits) (a .line .now)) (a .channels) (a .channels + 256 - (a .n + a .s)) (a .n) k (a .s) (take (a .n) (a .held .now))) e,
-    )
+returns-5 c = stays (c .before)
 
 pub channels-on-spec : {M : Type 1} → statement M
 channels-on-spec =
@@ -197,7 +163,7 @@ channels-on-spec =
     mul-at
     mul-at-2
     add-at
-    add-if4
+    add-if3
     same-length
     returns
     cast-plain
@@ -214,5 +180,4 @@ channels-on-spec =
     same-length-3
     returns-3
     returns-4
-    returns-5
-    returns-6)
+    returns-5)

@@ -35,7 +35,7 @@ unfolding readRow
 loop-holds c = (search needs, search needs, search needs, search needs, search needs, rw sub-zero)
 
 channels-on-requires : tie.Need-channels-on-requires Inv-loop μ-loop
-channels-on-requires c κs = (c .before .before .before .octets .ensures, search needs, search needs, search needs, search needs, search needs, search needs, search needs)
+channels-on-requires c κs = (c .before .before .before .octets .ensures, search needs, search needs, search needs, search needs, search needs, search needs, search needs, search needs)
 
 sub-active : tie.Need-sub-active Inv-loop μ-loop
 sub-active c = search needs
@@ -44,7 +44,7 @@ add-active : tie.Need-add-active Inv-loop μ-loop
 add-active c = search needs
 
 syncs-on-requires : tie.Need-syncs-on-requires Inv-loop μ-loop
-syncs-on-requires c κs = (search needs, search needs, search needs, search needs, search needs, c .before .before .channels-on .ensures .2)
+syncs-on-requires c κs = (search needs, search needs, search needs, search needs, search needs, search needs, c .before .before .channels-on .ensures .2)
 
 -- the channel count and the active count after channels on end, and the words
 abbrev count : tie.After-syncs-on Inv-loop μ-loop → ℕ
@@ -54,7 +54,7 @@ abbrev live : tie.After-syncs-on Inv-loop μ-loop → ℕ
 live c = c .before .before .before .before .before .before .loop .active + (count c - c .before .before .before .before .before .before .loop .n)
 
 abbrev kept : tie.After-syncs-on Inv-loop μ-loop → List ℕ
-kept c = c .before .before .before .channels-on .last .1 .1 .1 .1 .1 .1 .1 .0
+kept c = c .before .before .before .channels-on .last .1 .1 .1 .1 .1 .1 .1 .1 .0
 
 abbrev row : tie.After-syncs-on Inv-loop μ-loop → Row
 row c = carried (c .before .before .before .before .before .before .before .before .before .before .args .level) (c .before .before .before .before .before .before .before .before .before .before .args .bits) (c .before .before .before .before .before .before .before .before .before .before .args .line .now)
@@ -83,7 +83,7 @@ stands c =
       further = omega (arith, h .0, t .0);
       actives = omega (arith, h .0, l .inv .3);
       long = h .3;
-      reads = t .3 (a .level) (live c) (take (count c) (kept c)) ∙ h .4 (a .level) ∙ l .inv .5;
+      reads = t .3 (live c) (take (count c) (kept c)) ∙ h .4 ∙ l .inv .5;
     }
 
 piece-at-requires : tie.Need-piece-at-requires Inv-loop μ-loop
