@@ -25,9 +25,9 @@ use Rattle.block_check.proofs.CheckLaws.{Passes, sound-passes, right-back, read
 use Rattle.aes3_code.specs.Line.{lineFrom, LineRead, LineRead.All, LineRead.Stopped, levelBefore, bodiesOn}
 use Rattle.aes3_write.specs.Writer.{blockLine, toWrite, writeAnswer, lineWritten}
 use Rattle.aes3_read.specs.Reader.{blockRead, toRead, readAnswer, samplesAfter, sideAfter, samplesRead, sideRead}
-use Rattle.aes3_write.specs.declared.WriteAnswer.{WriteAnswer}
-use Rattle.aes3_write.specs.declared.WriteAnswer.the-variants.{Written}
-use Rattle.aes3_write.specs.declared.WriteAnswer.the-variants.{Refused as NotWritten}
+use Rattle.write_answer.specs.declared.WriteAnswer.{WriteAnswer}
+use Rattle.write_answer.specs.declared.WriteAnswer.the-variants.{Written}
+use Rattle.write_answer.specs.declared.WriteAnswer.the-variants.{Refused as NotWritten}
 use Rattle.aes3_read.specs.declared.ReadAnswer.the-variants.{Read}
 use Rattle.aes3.proofs.LineTrips.{length-line, line-level, read-back, WasRead, write-back}
 use Rattle.line.specs.Polarity.{inverted}

@@ -9,7 +9,7 @@ use Rattle.block_check.specs.Check.{checked}
 use Rattle.block_check.specs.declared.BlockAnswer.the-variants.{Sound}
 use Rattle.block_check.specs.declared.BlockAnswer.the-variants.{Refused as Unsound}
 use Rattle.aes3_write.specs.Writer.{blockLine, toWrite, writeAnswer, lineWritten}
-use Rattle.aes3_write.specs.declared.WriteAnswer.the-variants.{Written, Refused}
+use Rattle.write_answer.specs.declared.WriteAnswer.the-variants.{Written, Refused}
 
 module _ (samples : List ℤ) (side : List ℕ) (level : ℕ) (line : List ℕ)
     (ns : length samples ≡ 384) (nt : length side ≡ 144) (nl : length line ≡ 3072) (h : level < 2) where

@@ -13,9 +13,10 @@ use Rattle.block_check.specs.declared.BlockAnswer.{BlockAnswer}
 use Rattle.block_check.specs.declared.BlockAnswer.the-variants.{Sound}
 use Rattle.block_check.specs.declared.BlockAnswer.the-variants.{Refused as Unsound}
 use Rattle.aes3_code.specs.Line.{lineFrom}
-use Rattle.aes3_write.specs.declared.WriteAnswer.{WriteAnswer}
-use Rattle.aes3_write.specs.declared.WriteAnswer.the-variants.{Written}
-use Rattle.aes3_write.specs.declared.WriteAnswer.the-variants.{Refused as NotWritten}
+use Rattle.write_answer.specs.Answer.{ifWritten}
+use Rattle.write_answer.specs.declared.WriteAnswer.{WriteAnswer}
+use Rattle.write_answer.specs.declared.WriteAnswer.the-variants.{Written}
+use Rattle.write_answer.specs.declared.WriteAnswer.the-variants.{Refused as NotWritten}
 
 -- the octets of a block after a level
 unfoldable pub blockLine : List ℤ → List ℕ → ℕ → List ℕ
@@ -34,14 +35,5 @@ writeAnswer samples side level line =
     (NotWritten 1 0)
 
 -- what then stands on the line: the block, or on a refusal what stood there
-abbrev pub lineAfter : WriteAnswer → List ℕ → List ℕ → List ℕ
-lineAfter Written block line = block
-lineAfter (NotWritten n p) block line = line
-
 unfoldable pub lineWritten : List ℤ → List ℕ → ℕ → List ℕ → List ℕ
-lineWritten samples side level line = lineAfter (writeAnswer samples side level (length line)) (blockLine samples side level) line
-
--- what document 01 says of an answer: number, place
-abbrev pub writeTold : WriteAnswer → ℕ × ℕ
-writeTold Written = (0, 0)
-writeTold (NotWritten n p) = (n, p)
+lineWritten samples side level line = ifWritten (writeAnswer samples side level (length line)) (blockLine samples side level) line

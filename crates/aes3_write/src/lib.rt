@@ -22,12 +22,7 @@ mod tables;
 use block_check::BlockAnswer;
 use tables::EIGHT;
 use tables::SPREAD;
-
-// What writing a block answers.
-pub enum WriteAnswer {
-    Written,
-    Refused { number: u32, place: u32 },
-}
+use write_answer::WriteAnswer;
 
 // Sixteen ones after symbols whose last is 1, else none: a mask, since a branch on a symbol would go wrong every other time.
 fn sixteen_ones(before: u64) -> u64

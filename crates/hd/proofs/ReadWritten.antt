@@ -22,7 +22,7 @@ use Rattle.hd_lanes.specs.Lanes.{failing}
 use Rattle.hd_packet.specs.Packet.{octetsOf, codedWords, packetOf, did, channelOctets, dataOctets, bodyAt, bodiesIn}
 use Rattle.hd_packet.proofs.PacketLaws.{length-coded, length-packet, packet-at, packet-last, each-group}
 use Rattle.hd_write.specs.Write.{writeAnswer, packetWritten}
-use Rattle.hd_write.specs.declared.WriteAnswer.the-variants.{Written}
+use Rattle.write_answer.specs.declared.WriteAnswer.the-variants.{Written}
 use Rattle.hd_read.specs.Read.{groupOf, wrongHead, wrongWord, sumRight, wrongSpare, oddChannel, fieldsIn, octetsRead, readAnswer}
 use Rattle.hd_read.specs.declared.ReadAnswer.{ReadAnswer}
 use Rattle.hd_read.specs.declared.ReadAnswer.the-variants.{Read, Refused}

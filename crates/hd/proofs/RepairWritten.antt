@@ -27,7 +27,7 @@ use Rattle.hd_lanes.proofs.RepairedLanes.{lane-refused, lane-given, given-lane,
 use Rattle.hd_packet.specs.Packet.{octetsOf, packetOf, dataOctets}
 use Rattle.hd_packet.proofs.PacketLaws.{length-octets, octets-below, octets-packet}
 use Rattle.hd_write.specs.Write.{writeAnswer, packetWritten}
-use Rattle.hd_write.specs.declared.WriteAnswer.the-variants.{Written}
+use Rattle.write_answer.specs.declared.WriteAnswer.the-variants.{Written}
 use Rattle.hd_repair.specs.Repair.{repairedOctets, adfAnswer, repairAnswer, packetRepaired}
 use Rattle.hd_repair.specs.declared.RepairAnswer.{RepairAnswer}
 use Rattle.hd_repair.specs.declared.RepairAnswer.the-variants.{Repaired, Refused}

@@ -20,9 +20,9 @@ use Rattle.hd_packet.specs.Packet.{octetsOf, channelOctets, withZ, dataOctets}
 use Rattle.hd_packet.proofs.PacketLaws.{octets-packet}
 use Rattle.hd_write.specs.Write.{inRanges, oddBody, lowBody, writeAnswer, packetWritten}
 use Rattle.hd_write.specs.Inner.{Ranges}
-use Rattle.hd_write.specs.declared.WriteAnswer.{WriteAnswer}
-use Rattle.hd_write.specs.declared.WriteAnswer.the-variants.{Written}
-use Rattle.hd_write.specs.declared.WriteAnswer.the-variants.{Refused as NotWritten}
+use Rattle.write_answer.specs.declared.WriteAnswer.{WriteAnswer}
+use Rattle.write_answer.specs.declared.WriteAnswer.the-variants.{Written}
+use Rattle.write_answer.specs.declared.WriteAnswer.the-variants.{Refused as NotWritten}
 use Rattle.hd_write.proofs.WriteLaws.{ranges}
 
 -- ---- acceptance

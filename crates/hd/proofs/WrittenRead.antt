@@ -25,8 +25,8 @@ use Rattle.hd_lanes.proofs.CheckLaws.{satisfied-checks}
 use Rattle.hd_packet.specs.Packet.{octetsOf, codedWords, packetOf, did, dc, channelOctets, withZ, dataOctets, bodyAt, bodiesIn}
 use Rattle.hd_packet.proofs.PacketLaws.{length-octets, octet-at, octets-below, length-coded, length-packet, packet-at, packet-last}
 use Rattle.hd_write.specs.Write.{inRanges, oddBody, lowBody, writeAnswer, packetWritten}
-use Rattle.hd_write.specs.declared.WriteAnswer.the-variants.{Written}
-use Rattle.hd_write.specs.declared.WriteAnswer.the-variants.{Refused as NotWritten}
+use Rattle.write_answer.specs.declared.WriteAnswer.the-variants.{Written}
+use Rattle.write_answer.specs.declared.WriteAnswer.the-variants.{Refused as NotWritten}
 use Rattle.hd_read.specs.Read.{groupOf, wrongHead, wrongWord, sumRight, wrongSpare, oddChannel, fieldsIn, octetsRead, readAnswer}
 use Rattle.hd_read.specs.declared.Fields.{Fields}
 use Rattle.hd_read.specs.declared.ReadAnswer.{ReadAnswer}

@@ -20,9 +20,10 @@ use Rattle.hd_lanes.proofs.CheckLaws.{length-checks}
 use Rattle.hd_packet.specs.Packet.{did, channelOctets, withZ, dataOctets}
 use Rattle.hd_packet.specs.Inner.{packetLaid}
 use Rattle.hd_packet.proofs.PacketLaws.{each-group}
-use Rattle.hd_write.specs.declared.WriteAnswer.{WriteAnswer}
-use Rattle.hd_write.specs.declared.WriteAnswer.the-variants.{Written, Refused}
-use Rattle.hd_write.specs.Write.{inRanges, oddBody, lowBody, writeAnswer, packetWritten, ifWritten, wordsWritten}
+use Rattle.write_answer.specs.declared.WriteAnswer.{WriteAnswer}
+use Rattle.write_answer.specs.declared.WriteAnswer.the-variants.{Written, Refused}
+use Rattle.hd_write.specs.Write.{inRanges, oddBody, lowBody, writeAnswer, packetWritten, wordsWritten}
+use Rattle.write_answer.specs.Answer.{ifWritten}
 use Rattle.hd_write.specs.Inner.{Ranges, firstOdd, firstLow}
 
 -- ---- the tests of a body

@@ -9,8 +9,9 @@ use Rattle.bits.specs.Row.{even}
 use Rattle.subframe.specs.Body.{slots}
 use Rattle.hd_lanes.specs.Lanes.{checkOctets}
 use Rattle.hd_packet.specs.Packet.{packetOf, dataOctets}
-use Rattle.hd_write.specs.declared.WriteAnswer.{WriteAnswer}
-use Rattle.hd_write.specs.declared.WriteAnswer.the-variants.{Written, Refused}
+use Rattle.write_answer.specs.Answer.{ifWritten}
+use Rattle.write_answer.specs.declared.WriteAnswer.{WriteAnswer}
+use Rattle.write_answer.specs.declared.WriteAnswer.the-variants.{Written, Refused}
 
 -- group 1 to 4, DBN to 255, clock phase to 4,095, ck12 and both Z 0 or 1
 unfoldable pub inRanges : ℕ → ℕ → ℕ → ℕ → ℕ → ℕ → Bool
@@ -39,15 +40,6 @@ packetWritten group dbn phase ck12 z1 z2 bodies =
     packetOf (dataOctets group dbn phase ck12 z1 z2 bodies ++ checkOctets (dataOctets group dbn phase ck12 z1 z2 bodies))
 
 -- the words afterwards: the packet, or on refusal what stood there
-abbrev pub ifWritten : WriteAnswer → List ℕ → List ℕ → List ℕ
-ifWritten Written new old = new
-ifWritten (Refused number place) new old = old
-
 unfoldable pub wordsWritten : ℕ → ℕ → ℕ → ℕ → ℕ → ℕ → List ℕ → List ℕ → List ℕ
 wordsWritten group dbn phase ck12 z1 z2 bodies old =
     ifWritten (writeAnswer group dbn phase ck12 z1 z2 bodies (length old)) (packetWritten group dbn phase ck12 z1 z2 bodies) old
-
--- what document 01 says of an answer: number, place
-abbrev pub writeTold : WriteAnswer → ℕ × ℕ
-writeTold Written = (0, 0)
-writeTold (Refused n p) = (n, p)

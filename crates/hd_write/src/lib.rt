@@ -6,12 +6,7 @@ ghost use lib.ListN.{length, replicate};
 ghost use Rattle.hd_packet.specs.Packet.{channelOctets, withZ, dataOctets};
 ghost use Rattle.hd_write.specs.Write.{inRanges, writeAnswer, wordsWritten};
 ghost use Rattle.hd_write.specs.Inner.{Ranges, listed, firstOdd, firstLow};
-
-// What writing answers: the packet stands in the words, or document 01's number and place.
-pub enum WriteAnswer {
-    Written,
-    Refused { number: u32, place: u32 },
-}
+use write_answer::WriteAnswer;
 
 // Group 1 to 4, DBN to 255, clock phase to 4,095, ck12 and both Z 0 or 1.
 fn in_ranges(group: u32, dbn: u32, phase: u32, ck12: u32, z1: u32, z2: u32) -> bool

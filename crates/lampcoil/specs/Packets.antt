@@ -1,19 +1,13 @@
 -- What C receives of an HD audio data packet: document 01's number, place and values. Assumes nothing.
-use Rattle.hd_write.specs.Write.{writeTold}
-use Rattle.hd_write.specs.declared.WriteAnswer.{WriteAnswer}
 use Rattle.hd_read.specs.Read.{readTold}
 use Rattle.hd_read.specs.declared.ReadAnswer.{ReadAnswer}
 use Rattle.hd_repair.specs.Repair.{repairTold}
 use Rattle.hd_repair.specs.declared.RepairAnswer.{RepairAnswer}
 use Rattle.hd.specs.Dbn.{dbnTold}
 use Rattle.hd.specs.declared.DbnAnswer.{DbnAnswer}
-use Rattle.lampcoil.specs.declared.Verdict.{Verdict}
 use Rattle.lampcoil.specs.declared.PacketRead.{PacketRead}
 use Rattle.lampcoil.specs.declared.PacketRepaired.{PacketRepaired}
 use Rattle.lampcoil.specs.declared.NextDbn.{NextDbn}
-
-abbrev pub packetWritten : WriteAnswer → Verdict
-packetWritten a = record { number = writeTold a .0; place = writeTold a .1 }
 
 abbrev pub packetRead : ReadAnswer → PacketRead
 packetRead a =

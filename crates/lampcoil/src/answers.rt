@@ -3,8 +3,9 @@ ghost use mathlib.Core.Path.{_≡_};
 ghost use Rattle.lampcoil.specs.Bodies.{bodyAnswer};
 ghost use Rattle.lampcoil.specs.Codes.{laneAnswer, stagesAnswer};
 ghost use Rattle.lampcoil.specs.Status.{statusAnswer};
-ghost use Rattle.lampcoil.specs.Lines.{blockWritten, blockRead, startFound, frameWritten, frameRead};
-ghost use Rattle.lampcoil.specs.Packets.{packetWritten, packetRead, packetRepaired, dbnAnswer};
+ghost use Rattle.lampcoil.specs.Written.{verdictOf};
+ghost use Rattle.lampcoil.specs.Lines.{blockRead, startFound, frameRead};
+ghost use Rattle.lampcoil.specs.Packets.{packetRead, packetRepaired, dbnAnswer};
 use crate::BlockRead;
 use crate::BlockStart;
 use crate::Body;
@@ -20,6 +21,7 @@ use codes::LaneAnswer;
 use codes::StagesAnswer;
 use hunt::Found;
 use subframe::BodyAnswer;
+use write_answer::WriteAnswer;
 
 pub fn body_answer(a: BodyAnswer) -> Body
     ensures { λ r. ⌜ r ≡ bodyAnswer a ⌝ }
@@ -97,15 +99,15 @@ pub fn lane_answer(a: LaneAnswer) -> Lane
     }
 }
 
-pub fn block_written(a: aes3_write::WriteAnswer) -> Verdict
-    ensures { λ r. ⌜ r ≡ blockWritten a ⌝ }
+pub fn verdict_of(a: WriteAnswer) -> Verdict
+    ensures { λ r. ⌜ r ≡ verdictOf a ⌝ }
 {
     match a {
-        aes3_write::WriteAnswer::Written => Verdict {
+        WriteAnswer::Written => Verdict {
             number: 0,
             place: 0,
         },
-        aes3_write::WriteAnswer::Refused { number, place } => Verdict { number, place },
+        WriteAnswer::Refused { number, place } => Verdict { number, place },
     }
 }
 
@@ -145,18 +147,6 @@ pub fn start_found(a: Found) -> BlockStart
     }
 }
 
-pub fn frame_written(a: madi_write::WriteAnswer) -> Verdict
-    ensures { λ r. ⌜ r ≡ frameWritten a ⌝ }
-{
-    match a {
-        madi_write::WriteAnswer::Written => Verdict {
-            number: 0,
-            place: 0,
-        },
-        madi_write::WriteAnswer::Refused { number, place } => Verdict { number, place },
-    }
-}
-
 pub fn frame_read(a: madi_piece::ReadAnswer) -> FrameRead
     ensures { λ r. ⌜ r ≡ frameRead a ⌝ }
 {
@@ -173,18 +163,6 @@ pub fn frame_read(a: madi_piece::ReadAnswer) -> FrameRead
             active: 0,
             syncs: 0,
         },
-    }
-}
-
-pub fn packet_written(a: hd_write::WriteAnswer) -> Verdict
-    ensures { λ r. ⌜ r ≡ packetWritten a ⌝ }
-{
-    match a {
-        hd_write::WriteAnswer::Written => Verdict {
-            number: 0,
-            place: 0,
-        },
-        hd_write::WriteAnswer::Refused { number, place } => Verdict { number, place },
     }
 }
 

@@ -20,8 +20,9 @@ ghost use Rattle.hd.specs.Dbn.{nextDbn};
 ghost use Rattle.lampcoil.specs.Bodies.{bodyAnswer, meaningAnswer};
 ghost use Rattle.lampcoil.specs.Codes.{laneAnswer, stagesAnswer, startAnswer, sealAnswer, rightAnswer};
 ghost use Rattle.lampcoil.specs.Status.{statusRead};
-ghost use Rattle.lampcoil.specs.Lines.{blockWritten, blockRead, startFound, frameWritten, frameRead};
-ghost use Rattle.lampcoil.specs.Packets.{packetWritten, packetRead, packetRepaired, dbnAnswer};
+ghost use Rattle.lampcoil.specs.Written.{verdictOf};
+ghost use Rattle.lampcoil.specs.Lines.{blockRead, startFound, frameRead};
+ghost use Rattle.lampcoil.specs.Packets.{packetRead, packetRepaired, dbnAnswer};
 
 mod answers;
 
@@ -226,10 +227,10 @@ pub extern "C" fn lampcoil_aes3_write(
     level: u32,
     line: &mut [u8],
 ) -> Verdict
-    ensures { λ r. ⌜ r ≡ blockWritten (writeAnswer (now (samples .entry)) (now (side .entry)) level (length (now (line .entry)))) ⌝ }
+    ensures { λ r. ⌜ r ≡ verdictOf (writeAnswer (now (samples .entry)) (now (side .entry)) level (length (now (line .entry)))) ⌝ }
     ensures { λ _. ⌜ now (line .exit) ≡ lineWritten (now (samples .entry)) (now (side .entry)) level (now (line .entry)) ⌝ }
 {
-    answers::block_written(aes3_write::write_block(samples, side, level, line))
+    answers::verdict_of(aes3_write::write_block(samples, side, level, line))
 }
 
 #[repr(C)]
@@ -276,10 +277,10 @@ pub extern "C" fn lampcoil_madi_write(
     level: u32,
     line: &mut [u8],
 ) -> Verdict
-    ensures { λ r. ⌜ r ≡ frameWritten (frameAnswer channels (now (words .entry)) syncs level (length (now (line .entry)))) ⌝ }
+    ensures { λ r. ⌜ r ≡ verdictOf (frameAnswer channels (now (words .entry)) syncs level (length (now (line .entry)))) ⌝ }
     ensures { λ _. ⌜ now (line .exit) ≡ written channels (now (words .entry)) syncs level (now (line .entry)) ⌝ }
 {
-    answers::frame_written(madi_write::write_frame(channels, words, syncs, level, line))
+    answers::verdict_of(madi_write::write_frame(channels, words, syncs, level, line))
 }
 
 #[repr(C)]
@@ -319,10 +320,10 @@ pub extern "C" fn lampcoil_hd_write(
     bodies: &[u32],
     words: &mut [u16],
 ) -> Verdict
-    ensures { λ r. ⌜ r ≡ packetWritten (packetAnswer group dbn phase ck12 z1 z2 (now (bodies .entry)) (length (now (words .entry)))) ⌝ }
+    ensures { λ r. ⌜ r ≡ verdictOf (packetAnswer group dbn phase ck12 z1 z2 (now (bodies .entry)) (length (now (words .entry)))) ⌝ }
     ensures { λ _. ⌜ now (words .exit) ≡ wordsWritten group dbn phase ck12 z1 z2 (now (bodies .entry)) (now (words .entry)) ⌝ }
 {
-    answers::packet_written(hd_write::write_packet(group, dbn, phase, ck12, z1, z2, bodies, words))
+    answers::verdict_of(hd_write::write_packet(group, dbn, phase, ck12, z1, z2, bodies, words))
 }
 
 #[repr(C)]

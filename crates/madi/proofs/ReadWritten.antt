@@ -25,7 +25,7 @@ use Rattle.madi_piece.specs.declared.Piece.the-variants.{End, Sync, Slot}
 use Rattle.madi_read.proofs.Walking.{read-step}
 use Rattle.madi_write.specs.Writer.{frameRow, needed, frameOctets, writeAnswer}
 use Rattle.madi_write.specs.Inner.{sentWord, syncsNumber}
-use Rattle.madi_write.specs.declared.WriteAnswer.the-variants.{Written}
+use Rattle.write_answer.specs.declared.WriteAnswer.the-variants.{Written}
 use Rattle.madi_write.proofs.Frames.{word-at, length-frame, frame-channel, frame-syncs}
 use Rattle.madi_write.proofs.Checks.{Clean, writable}
 use Rattle.madi.specs.Units.{padded}

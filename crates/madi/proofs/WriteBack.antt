@@ -18,8 +18,8 @@ use Rattle.madi_frame.specs.Frame.{counted, evenBody, boundary}
 use Rattle.madi_piece.specs.Reader.{carried, taken, cleared, readFrame}
 use Rattle.madi_read.proofs.Carrying.{length-carried}
 use Rattle.madi_write.specs.Writer.{marked, channelWords, frameRow, needed, frameOctets, writeAnswer, written, writtenBy}
-use Rattle.madi_write.specs.declared.WriteAnswer.{WriteAnswer}
-use Rattle.madi_write.specs.declared.WriteAnswer.the-variants.{Written}
+use Rattle.write_answer.specs.declared.WriteAnswer.{WriteAnswer}
+use Rattle.write_answer.specs.declared.WriteAnswer.the-variants.{Written}
 use Rattle.madi_write.proofs.Frames.{length-frame}
 use Rattle.madi_write.proofs.Checks.{words-written}
 use Rattle.madi.specs.Units.{SyncsLast}

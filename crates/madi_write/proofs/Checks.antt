@@ -18,8 +18,8 @@ use Rattle.bits.proofs.Firsts.{first-cases}
 use Rattle.madi_frame.proofs.FrameLaws.{counted-le}
 use Rattle.madi_frame.specs.Frame.{counted, evenBody}
 use Rattle.madi_write.specs.Writer.{needed, inRange, clear, wordsAnswer, writeAnswer}
-use Rattle.madi_write.specs.declared.WriteAnswer.{WriteAnswer}
-use Rattle.madi_write.specs.declared.WriteAnswer.the-variants.{Written, Refused}
+use Rattle.write_answer.specs.declared.WriteAnswer.{WriteAnswer}
+use Rattle.write_answer.specs.declared.WriteAnswer.the-variants.{Written, Refused}
 
 pub record Ranged (channels count syncs level : ℕ) : Type 0 where
   pub counts : counted channels ≡ true

@@ -11,8 +11,9 @@ use Rattle.line.specs.Nrzi.{levels}
 use Rattle.madi_code.specs.Groups.{sync}
 use Rattle.madi_code.specs.Channels.{channelRow}
 use Rattle.madi_frame.specs.Frame.{counted, evenBody, boundary}
-use Rattle.madi_write.specs.declared.WriteAnswer.{WriteAnswer}
-use Rattle.madi_write.specs.declared.WriteAnswer.the-variants.{Written, Refused}
+use Rattle.write_answer.specs.Answer.{ifWritten}
+use Rattle.write_answer.specs.declared.WriteAnswer.{WriteAnswer}
+use Rattle.write_answer.specs.declared.WriteAnswer.the-variants.{Written, Refused}
 
 -- ---- the frame
 
@@ -64,13 +65,7 @@ writeAnswer channels words syncs level room =
 
 -- the frame and the rest of what stood there; or what stood there
 abbrev pub writtenBy : WriteAnswer → ℕ → List ℕ → ℕ → ℕ → List ℕ → List ℕ
-writtenBy Written channels words syncs level old = frameOctets channels words syncs level ++ drop (needed channels syncs) old
-writtenBy (Refused number place) channels words syncs level old = old
+writtenBy a channels words syncs level old = ifWritten a (frameOctets channels words syncs level ++ drop (needed channels syncs) old) old
 
 abbrev pub written : ℕ → List ℕ → ℕ → ℕ → List ℕ → List ℕ
 written channels words syncs level old = writtenBy (writeAnswer channels words syncs level (length old)) channels words syncs level old
-
--- what document 01 says of an answer: number, place
-abbrev pub writeTold : WriteAnswer → ℕ × ℕ
-writeTold Written = (0, 0)
-writeTold (Refused n p) = (n, p)

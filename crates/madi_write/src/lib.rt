@@ -8,12 +8,7 @@ ghost use Rattle.madi_write.specs.Inner.{sentWord, blockOf, Levels, Stor
 ghost use Rattle.bits.specs.Row.{big};
 ghost use Rattle.madi_code.specs.Channels.{channelRow};
 ghost use Rattle.madi_tables.specs.Inner.{Pairs};
-
-// What writing a frame answers: that it is written, or a refusal's number and place.
-pub enum WriteAnswer {
-    Written,
-    Refused { number: u32, place: u32 },
-}
+use write_answer::WriteAnswer;
 
 // Four syncs: 40 bits, as a channel has.
 const FOUR_SYNCS: u64 = 0b1100010001110001000111000100011100010001;

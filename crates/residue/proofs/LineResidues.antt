@@ -15,19 +15,17 @@ use Rattle.side.specs.Side.{sideLength}
 use Rattle.block.specs.Block.{bodiesOf, samplesOf, sideOf, blockLengths}
 use Rattle.block.proofs.BlockLaws.{length-bodies, length-samples, length-side}
 use Rattle.aes3_code.specs.Line.{LineRead, LineRead.All, LineRead.Stopped, bodiesOn}
-use Rattle.aes3_write.specs.Writer.{blockLine, writeAnswer, lineAfter, lineWritten}
+use Rattle.write_answer.specs.Answer.{isWritten}
+use Rattle.write_answer.specs.declared.WriteAnswer.the-variants.{Refused}
+use Rattle.write_answer.proofs.AnswerLaws.{new-written, old-kept}
+use Rattle.aes3_write.specs.Writer.{blockLine, writeAnswer, lineWritten}
 use Rattle.aes3_read.specs.Reader.{blockRead, toRead, readAnswer, samplesAfter, sideAfter, samplesRead, sideRead}
 use Rattle.aes3.proofs.LineTrips.{length-line}
-use Rattle.aes3_write.specs.declared.WriteAnswer.{WriteAnswer}
-use Rattle.aes3_write.specs.declared.WriteAnswer.the-variants.{Written, Refused}
 use Rattle.aes3_read.specs.declared.ReadAnswer.{ReadAnswer}
 use Rattle.aes3_read.specs.declared.ReadAnswer.the-variants.{Read}
 use Rattle.aes3_read.specs.declared.ReadAnswer.the-variants.{Refused as NotRead}
-use Rattle.madi_write.specs.Writer.{frameRow, needed, frameOctets, writtenBy, written}
+use Rattle.madi_write.specs.Writer.{frameRow, needed, frameOctets, written}
 use Rattle.madi_write.specs.Writer.{writeAnswer as frameAnswer}
-use Rattle.madi_write.specs.declared.WriteAnswer.{WriteAnswer as FrameAnswer}
-use Rattle.madi_write.specs.declared.WriteAnswer.the-variants.{Written as Framed}
-use Rattle.madi_write.specs.declared.WriteAnswer.the-variants.{Refused as NotFramed}
 use Rattle.madi_piece.specs.Reader.{Reading, Reading.taken, Reading.refused, readFrame, answerOf, wordsOf, cleared}
 use Rattle.madi_piece.specs.declared.ReadAnswer.{ReadAnswer as FrameReadAnswer}
 use Rattle.madi_piece.specs.declared.ReadAnswer.the-variants.{Read as FrameRead}
@@ -39,18 +37,6 @@ use Rattle.residue.proofs.Residues.{no-residue, whole-buffer}
 
 -- ---- AES3, writing
 
-abbrev pub blockTaken : WriteAnswer → Bool
-blockTaken Written = true
-blockTaken (Refused n p) = false
-
-line-after : (a : WriteAnswer) (block line : List ℕ) → blockTaken a ≡ true → lineAfter a block line ≡ block
-line-after Written block line t = refl
-line-after (Refused n p) block line t = no-yes false refl t
-
-line-kept : (a : WriteAnswer) (block line : List ℕ) → blockTaken a ≡ false → lineAfter a block line ≡ line
-line-kept Written block line f = no-yes true f refl
-line-kept (Refused n p) block line f = refl
-
 module _ (samples : List ℤ) (side : List ℕ) (level : ℕ) where
   abbrev block : List ℕ
   block = blockLine samples side level
@@ -59,19 +45,19 @@ module _ (samples : List ℤ) (side : List ℕ) (level : ℕ) where
   unfolding blockLine
   length-block = length-line 0 (odd level) (bodiesOf samples side) ∙ ap (λ (n : ℕ). n * 8) (length-bodies samples side)
 
-  fitting : (n : ℕ) → blockTaken (writeAnswer samples side level n) ≡ true → n ≡ 3072
+  fitting : (n : ℕ) → isWritten (writeAnswer samples side level n) ≡ true → n ≡ 3072
   unfolding writeAnswer
   fitting n =
-      pick-cases (λ a. blockTaken a ≡ true → n ≡ 3072) (blockLengths (length samples) (length side) && eqb n 3072) _ (Refused 1 0)
+      pick-cases (λ a. isWritten a ≡ true → n ≡ 3072) (blockLengths (length samples) (length side) && eqb n 3072) _ (Refused 1 0)
       (λ e t. eqb-true n 3072 (both-true (blockLengths (length samples) (length side)) (eqb n 3072) e .1))
       (λ e t. no-yes false refl t)
 
-  pub aes3-write-leaves-none : NoResidue blockTaken (length block) (λ line. writeAnswer samples side level (length line)) (lineWritten samples side level)
+  pub aes3-write-leaves-none : NoResidue isWritten (length block) (λ line. writeAnswer samples side level (length line)) (lineWritten samples side level)
   unfolding lineWritten
   aes3-write-leaves-none =
-      whole-buffer blockTaken (writeAnswer samples side level) block (lineWritten samples side level)
-      (λ line t. (line-after (writeAnswer samples side level (length line)) block line t, fitting (length line) t ∙ sym length-block))
-      (λ line f. line-kept (writeAnswer samples side level (length line)) block line f)
+      whole-buffer isWritten (writeAnswer samples side level) block (lineWritten samples side level)
+      (λ line t. (new-written (writeAnswer samples side level (length line)) block line t, fitting (length line) t ∙ sym length-block))
+      (λ line f. old-kept (writeAnswer samples side level (length line)) block line f)
 
 -- ---- AES3, reading: samples and side table by one argument
 
@@ -144,10 +130,6 @@ module _ (line : List ℕ) (other : ℕ) where
 
 -- ---- MADI, writing: the frame, and the rest of what stood there
 
-abbrev pub frameTaken : FrameAnswer → Bool
-frameTaken Framed = true
-frameTaken (NotFramed n p) = false
-
 module _ (channels : ℕ) (words : List ℕ) (syncs level : ℕ) where
   abbrev frame : List ℕ
   frame = frameOctets channels words syncs level
@@ -156,20 +138,15 @@ module _ (channels : ℕ) (words : List ℕ) (syncs level : ℕ) where
   unfolding frameOctets
   length-frame = length-pack big 8 (needed channels syncs) (levels (odd level) (frameRow channels words syncs))
 
-  frame-after : (a : FrameAnswer) (line : List ℕ) → frameTaken a ≡ true → writtenBy a channels words syncs level line ≡ frame ++ drop (length frame) line
-  frame-after Framed line t = ap (λ (n : ℕ). frame ++ drop n line) (sym length-frame)
-  frame-after (NotFramed n p) line t = no-yes false refl t
+  abbrev on-line : List ℕ → List ℕ
+  on-line line = frame ++ drop (needed channels syncs) line
 
-  frame-kept : (a : FrameAnswer) (line : List ℕ) → frameTaken a ≡ false → writtenBy a channels words syncs level line ≡ line
-  frame-kept Framed line f = no-yes true f refl
-  frame-kept (NotFramed n p) line f = refl
-
-  pub madi-write-leaves-none : NoResidue frameTaken (length frame) (λ line. frameAnswer channels words syncs level (length line))
+  pub madi-write-leaves-none : NoResidue isWritten (length frame) (λ line. frameAnswer channels words syncs level (length line))
       (written channels words syncs level)
   madi-write-leaves-none =
-      no-residue frameTaken (frameAnswer channels words syncs level) frame (written channels words syncs level)
-      (λ line t. frame-after (frameAnswer channels words syncs level (length line)) line t)
-      (λ line f. frame-kept (frameAnswer channels words syncs level (length line)) line f)
+      no-residue isWritten (frameAnswer channels words syncs level) frame (written channels words syncs level)
+      (λ line t. new-written (frameAnswer channels words syncs level (length line)) (on-line line) line t ∙ ap (λ (n : ℕ). frame ++ drop n line) (sym length-frame))
+      (λ line f. old-kept (frameAnswer channels words syncs level (length line)) (on-line line) line f)
 
 -- ---- MADI, reading: all 56 or 64 words, those of inactive channels too
 

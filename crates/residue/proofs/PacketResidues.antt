@@ -13,9 +13,11 @@ use Rattle.codes.specs.Crcc.{octetOf, stagesAfter, crccOf, sealed}
 use Rattle.hd_packet.specs.Packet.{octetsOf, bodiesIn}
 use Rattle.hd_packet.proofs.PacketLaws.{length-octets, octets-below, length-packet}
 use Rattle.hd_lanes.proofs.RepairedLanes.{length-all}
-use Rattle.hd_write.specs.Write.{writeAnswer, packetWritten, ifWritten, wordsWritten}
-use Rattle.hd_write.specs.declared.WriteAnswer.{WriteAnswer}
-use Rattle.hd_write.specs.declared.WriteAnswer.the-variants.{Written, Refused}
+use Rattle.hd_write.specs.Write.{writeAnswer, packetWritten, wordsWritten}
+use Rattle.write_answer.specs.Answer.{isWritten}
+use Rattle.write_answer.proofs.AnswerLaws.{new-written, old-kept}
+use Rattle.write_answer.specs.declared.WriteAnswer.{WriteAnswer}
+use Rattle.write_answer.specs.declared.WriteAnswer.the-variants.{Refused}
 use Rattle.hd_read.specs.Read.{readAnswer, ifRead, bodiesRead}
 use Rattle.hd_read.specs.declared.ReadAnswer.{ReadAnswer}
 use Rattle.hd_read.specs.declared.ReadAnswer.the-variants.{Read}
@@ -30,18 +32,6 @@ use Rattle.residue.proofs.Residues.{whole-buffer}
 
 -- ---- writing
 
-abbrev pub packetTaken : WriteAnswer → Bool
-packetTaken Written = true
-packetTaken (Refused n p) = false
-
-words-after : (a : WriteAnswer) (new old : List ℕ) → packetTaken a ≡ true → ifWritten a new old ≡ new
-words-after Written new old t = refl
-words-after (Refused n p) new old t = no-yes false refl t
-
-words-kept : (a : WriteAnswer) (new old : List ℕ) → packetTaken a ≡ false → ifWritten a new old ≡ old
-words-kept Written new old f = no-yes true f refl
-words-kept (Refused n p) new old f = refl
-
 module _ (group dbn phase ck12 z1 z2 : ℕ) (bodies : List ℕ) where
   abbrev packet : List ℕ
   packet = packetWritten group dbn phase ck12 z1 z2 bodies
@@ -53,19 +43,19 @@ module _ (group dbn phase ck12 z1 z2 : ℕ) (bodies : List ℕ) where
   abbrev answer : ℕ → WriteAnswer
   answer = writeAnswer group dbn phase ck12 z1 z2 bodies
 
-  room : (n : ℕ) → packetTaken (answer n) ≡ true → n ≡ 31
+  room : (n : ℕ) → isWritten (answer n) ≡ true → n ≡ 31
   unfolding writeAnswer
   room n =
-      pick-cases (λ a. packetTaken a ≡ true → n ≡ 31) (eqb (length bodies) 4 && eqb n 31) _ (Refused 1 0)
+      pick-cases (λ a. isWritten a ≡ true → n ≡ 31) (eqb (length bodies) 4 && eqb n 31) _ (Refused 1 0)
       (λ e t. eqb-true n 31 (both-true (eqb (length bodies) 4) (eqb n 31) e .1)) (λ e t. no-yes false refl t)
 
-  pub hd-write-leaves-none : NoResidue packetTaken (length packet) (λ words. answer (length words))
+  pub hd-write-leaves-none : NoResidue isWritten (length packet) (λ words. answer (length words))
       (wordsWritten group dbn phase ck12 z1 z2 bodies)
   unfolding wordsWritten
   hd-write-leaves-none =
-      whole-buffer packetTaken answer packet (wordsWritten group dbn phase ck12 z1 z2 bodies)
-      (λ old t. (words-after (answer (length old)) packet old t, room (length old) t ∙ sym packet-size))
-      (λ old f. words-kept (answer (length old)) packet old f)
+      whole-buffer isWritten answer packet (wordsWritten group dbn phase ck12 z1 z2 bodies)
+      (λ old t. (new-written (answer (length old)) packet old t, room (length old) t ∙ sym packet-size))
+      (λ old f. old-kept (answer (length old)) packet old f)
 
 -- ---- reading
 

@@ -1,12 +1,12 @@
 // Blocks written, changed and read, on generated cases. The file `stdout` is what tests/second/trial_aes3.c prints.
 use aes3_read::ReadAnswer;
-use aes3_write::WriteAnswer;
 use cases::join;
 use cases::next;
 use cases::octet;
 use cases::sum;
 use cases::with_word;
 use subframe::BodyAnswer;
+use write_answer::WriteAnswer;
 
 fn number(n: u64) {
     io::write_all(1, b" ");

@@ -4,7 +4,7 @@ use cases::with_octet;
 use hd::DbnAnswer;
 use hd_read::ReadAnswer;
 use hd_repair::RepairAnswer;
-use hd_write::WriteAnswer;
+use write_answer::WriteAnswer;
 
 fn number(n: u64) {
     io::write_all(1, b" ");

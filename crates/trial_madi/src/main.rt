@@ -6,7 +6,7 @@ use cases::sum;
 use cases::sum_words;
 use cases::with_word;
 use madi_piece::ReadAnswer;
-use madi_write::WriteAnswer;
+use write_answer::WriteAnswer;
 
 mod frames;
 mod units;

@@ -6,7 +6,7 @@ use borrow.Author.Needs.{needs}
 use lib.ListN.{replicate}
 use Rattle.hd_lanes.specs.Lanes.{withChecks}
 use Rattle.hd_packet.specs.Inner.{packetLaid}
-use Rattle.hd_write.specs.declared.WriteAnswer.the-variants.{Written, Refused}
+use Rattle.write_answer.specs.declared.WriteAnswer.the-variants.{Written, Refused}
 use Rattle.hd_write.proofs.WriteLaws.{ranges, words-after, few-bodies, few-words, out-of-range, odd-body, low-body, all-right, four-bodies, checked, laid}
 use Rattle.hd_write.proofs.write_packet.Statement.{statement}
 use Rattle.hd_write.proofs.write_packet.Tie as tie

@@ -1,5 +1,5 @@
 -- `lampcoil::lampcoil_aes3_write` meets its contract: it hands on the answer of the call. Assumes nothing.
-use Rattle.lampcoil.specs.Lines.{blockWritten}
+use Rattle.lampcoil.specs.Written.{verdictOf}
 use mathlib.Core.Path.{_∙_, ap}
 use borrow.Author.Needs.{needs}
 use Rattle.lampcoil.proofs.lampcoil_aes3_write.Statement.{statement}
@@ -8,8 +8,8 @@ use Rattle.lampcoil.proofs.lampcoil_aes3_write.Tie as tie
 write-block-requires : tie.Need-write-block-requires
 write-block-requires c κs = search needs
 
-block-written-requires : tie.Need-block-written-requires
-block-written-requires c κs = search needs
+verdict-of-requires : tie.Need-verdict-of-requires
+verdict-of-requires c κs = search needs
 
 same-length : tie.Need-same-length
 same-length c = search needs
@@ -17,8 +17,8 @@ same-length c = search needs
 returns : tie.Need-returns
 returns c =
     let r = c .before .before .before .write-block in
-    (c .block-written .ensures ∙ ap blockWritten (r .ensures .0), r .ensures .1)
+    (c .verdict-of .ensures ∙ ap verdictOf (r .ensures .0), r .ensures .1)
 
 pub lampcoil-aes3-write-spec : {M : Type 1} → statement M
 lampcoil-aes3-write-spec =
-    tie.close (tie.spec write-block-requires block-written-requires same-length returns)
+    tie.close (tie.spec write-block-requires verdict-of-requires same-length returns)

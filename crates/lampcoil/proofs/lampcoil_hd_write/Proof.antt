@@ -1,5 +1,5 @@
 -- `lampcoil::lampcoil_hd_write` meets its contract: it hands on the answer of the call. Assumes nothing.
-use Rattle.lampcoil.specs.Packets.{packetWritten}
+use Rattle.lampcoil.specs.Written.{verdictOf}
 use mathlib.Core.Path.{_∙_, ap}
 use borrow.Author.Needs.{needs}
 use Rattle.lampcoil.proofs.lampcoil_hd_write.Statement.{statement}
@@ -8,8 +8,8 @@ use Rattle.lampcoil.proofs.lampcoil_hd_write.Tie as tie
 write-packet-requires : tie.Need-write-packet-requires
 write-packet-requires c κs = search needs
 
-packet-written-requires : tie.Need-packet-written-requires
-packet-written-requires c κs = search needs
+verdict-of-requires : tie.Need-verdict-of-requires
+verdict-of-requires c κs = search needs
 
 same-length : tie.Need-same-length
 same-length c = search needs
@@ -17,8 +17,8 @@ same-length c = search needs
 returns : tie.Need-returns
 returns c =
     let r = c .before .before .before .write-packet in
-    (c .packet-written .ensures ∙ ap packetWritten (r .ensures .0), r .ensures .1)
+    (c .verdict-of .ensures ∙ ap verdictOf (r .ensures .0), r .ensures .1)
 
 pub lampcoil-hd-write-spec : {M : Type 1} → statement M
 lampcoil-hd-write-spec =
-    tie.close (tie.spec write-packet-requires packet-written-requires same-length returns)
+    tie.close (tie.spec write-packet-requires verdict-of-requires same-length returns)

@@ -11,8 +11,8 @@ use Rattle.bits.specs.Pick.{first}
 use Rattle.bits.proofs.Firsts.{first-hit, first-next, first-miss}
 use Rattle.madi_frame.specs.Frame.{evenBody}
 use Rattle.madi_write.specs.Writer.{clear, wordsAnswer}
-use Rattle.madi_write.specs.declared.WriteAnswer.{WriteAnswer}
-use Rattle.madi_write.specs.declared.WriteAnswer.the-variants.{Written, Refused}
+use Rattle.write_answer.specs.declared.WriteAnswer.{WriteAnswer}
+use Rattle.write_answer.specs.declared.WriteAnswer.the-variants.{Written, Refused}
 use Rattle.madi_write.proofs.find_fault.Statement.{statement}
 use Rattle.madi_write.proofs.find_fault.Tie as tie
 

@@ -3,7 +3,7 @@ use mathlib.Core.Path.{sym, ap, _∙_}
 use borrow.Author.Needs.{needs}
 use lib.ListN.{length}
 use Rattle.madi_write.specs.Writer.{writtenBy}
-use Rattle.madi_write.specs.declared.WriteAnswer.{WriteAnswer}
+use Rattle.write_answer.specs.declared.WriteAnswer.{WriteAnswer}
 use Rattle.madi_write.proofs.Checks.{writable}
 use Rattle.madi_write.proofs.write_frame.Statement.{statement}
 use Rattle.madi_write.proofs.write_frame.Tie as tie
