@@ -1,36 +1,14 @@
 /* What the trial program trial_aes3 must print, over the second program's own writer and reader. `make expected` writes its output. */
+#include "cases.h"
 #include "second.h"
 #include <stdio.h>
-
-static uint32_t state = 1;
-
-static uint32_t draw(void)
-{
-    state = (uint32_t)((uint64_t)state * 1664525u + 1013904223u);
-    return state / 65536u;
-}
-
-/* Sums that every octet counts in. */
-static unsigned with(unsigned h, unsigned octet)
-{
-    return (h * 31u + octet) % 65521u;
-}
-
-static unsigned sum(const uint8_t *octets, size_t n)
-{
-    unsigned h = 0;
-    for (size_t i = 0; i < n; i++)
-        h = with(h, octets[i]);
-    return h;
-}
 
 static unsigned sum_samples(const int32_t *samples, size_t n)
 {
     unsigned h = 0;
     for (size_t i = 0; i < n; i++) {
         uint32_t s = samples[i] < -8388608 || samples[i] > 8388607 ? 16777216u : (uint32_t)samples[i] & 16777215u;
-        for (int k = 0; k < 4; k++)
-            h = with(h, s >> 8 * k & 255u);
+        h = cases_with_word(h, s);
     }
     return h;
 }
@@ -42,8 +20,8 @@ static uint8_t side[144], t[144], line[3072];
 static void draw_samples(unsigned kind)
 {
     for (int i = 0; i < 384; i++) {
-        uint32_t high = draw();
-        uint32_t low = draw();
+        uint32_t high = cases_draw();
+        uint32_t low = cases_draw();
         int32_t drawn = (int32_t)((high << 16 | low) >> 4 & 16777215u);
         if (drawn > 8388607)
             drawn -= 16777216;
@@ -56,7 +34,7 @@ static void draw_samples(unsigned kind)
 static void draw_side(unsigned kind)
 {
     for (int i = 0; i < 144; i++) {
-        uint32_t drawn = draw();
+        uint32_t drawn = cases_draw();
         side[i] = kind == 1 ? 0 : (uint8_t)(drawn % 256u);
     }
     for (int i = 0; i < 24; i++)
@@ -73,14 +51,14 @@ static void draw_side(unsigned kind)
 static void tell_write(size_t m, size_t n, uint32_t level, size_t l)
 {
     second_verdict v = second_aes3_write(samples, m, side, n, level, line, l);
-    printf(" write %u %u %u", (unsigned)v.number, (unsigned)v.place, sum(line, l));
+    printf(" write %u %u %u", (unsigned)v.number, (unsigned)v.place, cases_sum(line, l));
 }
 
 static void tell_read(size_t l, size_t m, size_t n)
 {
     second_aes3_read_answer a = second_aes3_read(line, l, s, m, t, n);
     printf(" read %u %u %u %u %u %u\n", (unsigned)a.number, (unsigned)a.place, (unsigned)a.crcc_a, (unsigned)a.crcc_b,
-           sum_samples(s, m), sum(t, n));
+           sum_samples(s, m), cases_sum(t, n));
 }
 
 static void block(unsigned k)
@@ -119,8 +97,8 @@ int main(void)
         block(k);
     block(10);
     for (int k = 0; k < 500; k++) {
-        unsigned j = draw() % 3072u;
-        unsigned n = draw() % 8u;
+        unsigned j = cases_draw() % 3072u;
+        unsigned n = cases_draw() % 8u;
         printf("symbol %u %u", j, n);
         line[j] ^= (uint8_t)(1u << n);
         tell_read(3072, 384, 144);

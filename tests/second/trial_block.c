@@ -1,20 +1,13 @@
 /* What the trial program trial_block must print, written from document 01 alone, bit by bit. `make expected` writes its output. */
+#include "cases.h"
 #include <stdint.h>
 #include <stdio.h>
 #include <string.h>
 
-static uint32_t state = 1;
-
-static uint32_t draw(void)
-{
-    state = (uint32_t)((uint64_t)state * 1664525u + 1013904223u);
-    return state >> 16;
-}
-
 static uint32_t draw_wide(void)
 {
-    uint32_t high = draw();
-    return high * 65536u + draw();
+    uint32_t high = cases_draw();
+    return high * 65536u + cases_draw();
 }
 
 /* ---- the body */
@@ -67,33 +60,11 @@ static uint32_t shown_sample(int32_t s)
     return s < 0 ? (uint32_t)(s + 16777216) : (uint32_t)s;
 }
 
-/* ---- sums */
-
-static uint64_t with_octet(uint64_t h, uint64_t octet)
-{
-    return (h * 31 + octet) % 65521;
-}
-
-static uint64_t with_word(uint64_t h, uint32_t word)
-{
-    for (int k = 0; k < 4; k++)
-        h = with_octet(h, word >> 8 * k & 255);
-    return h;
-}
-
-static uint64_t sum_octets(const uint8_t *octets, int n)
-{
-    uint64_t h = 0;
-    for (int k = 0; k < n; k++)
-        h = with_octet(h, octets[k]);
-    return h;
-}
-
 /* ---- bodies */
 
 static uint32_t digit(uint32_t i, uint32_t rare)
 {
-    uint32_t x = draw();
+    uint32_t x = cases_draw();
     return i % rare == 0 ? x + 2 : x % 2;
 }
 
@@ -149,7 +120,7 @@ static void column_case(int octets, int frames)
 {
     uint8_t drawn[192], column[30];
     for (int k = 0; k < 192; k++)
-        drawn[k] = (uint8_t)(draw() % 256);
+        drawn[k] = (uint8_t)(cases_draw() % 256);
     memset(column, 7, sizeof column);
     printf("column");
     if (octets == 24 && frames == 192) {
@@ -159,7 +130,7 @@ static void column_case(int octets, int frames)
         printf(" 0");
     } else
         printf(" 1");
-    printf(" %u %d %d\n", (unsigned)sum_octets(column, 30), side_bit(drawn, 192, octets % 8, frames),
+    printf(" %u %d %d\n", (unsigned)cases_sum(column, 30), side_bit(drawn, 192, octets % 8, frames),
            side_bit(drawn, 192, frames % 6, octets * 5));
 }
 
@@ -252,10 +223,10 @@ static void block_case(int kind)
     for (int i = 0; i < 384; i++)
         samples[i] = sample_in(draw_wide());
     for (int i = 0; i < 144; i++)
-        side[i] = (uint8_t)(draw() % 256);
+        side[i] = (uint8_t)(cases_draw() % 256);
     int low_a = 1, low_b = 1, more_a = 0, more_b = 0, samples_len = 384, side_len = 144;
     if (kind == 1)
-        samples[(state >> 16) % 384] = 8388608;
+        samples[cases_last() % 384] = 8388608;
     if (kind == 2)
         low_a = 2;
     if (kind == 3)
@@ -289,7 +260,7 @@ static void block_case(int kind)
         if (!outside(samples[i]))
             body = body_of(samples[i], (uint32_t)side_bit(side, 144, 3 * channel, frame),
                            (uint32_t)side_bit(side, 144, 3 * channel + 1, frame), (uint32_t)side_bit(side, 144, 3 * channel + 2, frame));
-        h = with_word(h, body);
+        h = cases_with_word(h, body);
         kept[i] = sample_in(body);
         if (body == 0)                /* what is read of no body: V, U and C 0 */
             for (int k = 0; k < 3; k++)
@@ -298,8 +269,8 @@ static void block_case(int kind)
     printf(" %u 0 0", (unsigned)h);
     h = 0;
     for (int i = 0; i < 384; i++)
-        h = with_word(h, shown_sample(kept[i]));
-    printf(" %u %u %d %d 0\n", (unsigned)h, (unsigned)sum_octets(side, 144), right(side, 0), right(side, 1));
+        h = cases_with_word(h, shown_sample(kept[i]));
+    printf(" %u %u %d %d 0\n", (unsigned)h, (unsigned)cases_sum(side, 144), right(side, 0), right(side, 1));
 }
 
 int main(void)

@@ -1,16 +1,9 @@
 /* What the trial program trial_codes must print, written from document 01 alone: the CRCC and the lane code bit by bit, by
    polynomial division, with no table, and repair by trying the thirty places. `make expected` writes its output. */
+#include "cases.h"
 #include <stdint.h>
 #include <stdio.h>
 #include <string.h>
-
-static uint32_t state = 1;
-
-static uint32_t draw(void)
-{
-    state = (uint32_t)((uint64_t)state * 1664525u + 1013904223u);
-    return state >> 16;
-}
 
 /* ---- the CRCC: a register of eight cells, cell n the coefficient of x^n; x^8 + x^4 + x^3 + x^2 + 1 */
 
@@ -63,7 +56,7 @@ static void seals(void)
         uint8_t octets[32];
         unsigned h = 0;
         for (int i = 0; i < 32; i++)
-            octets[i] = (uint8_t)draw();
+            octets[i] = (uint8_t)cases_draw();
         int before = right(octets, n);
         int number = seal(octets, n);
         int after = right(octets, n);
@@ -151,11 +144,11 @@ static void lane(uint32_t x)
 static void lanes(uint32_t count)
 {
     for (uint32_t i = 0; i < count; i++) {
-        uint32_t low = draw();
-        uint32_t data = draw() % 256 * 65536 + low;
+        uint32_t low = cases_draw();
+        uint32_t data = cases_draw() % 256 * 65536 + low;
         uint32_t clean = check_of(data) << 24 | data;
-        uint32_t j = draw() % 30;
-        uint32_t k = (j + 1 + draw() % 29) % 30;
+        uint32_t j = cases_draw() % 30;
+        uint32_t k = (j + 1 + cases_draw() % 29) % 30;
         lane(clean);
         lane(clean ^ UINT32_C(1) << j);
         lane(clean ^ UINT32_C(1) << j ^ UINT32_C(1) << k);

@@ -2,32 +2,27 @@
    packet changed, pairs of places in one lane and in two, every data bit changed under right check words, other lengths. `make expected` writes its output. */
 #include <stdio.h>
 #include <string.h>
+#include "cases.h"
 #include "second.h"
 
 static uint32_t state = 1;
 
 static void step(void)
 {
-    state = (uint32_t)((uint64_t)state * 1664525u + 1013904223u);
+    state = cases_next(state);
 }
 
-static unsigned long sum_words(const uint16_t *words, int count)
+static uint32_t sum_words(const uint16_t *words, int count)
 {
-    unsigned long h = 0;
-    for (int k = 0; k < count; k++) {
-        h = (h * 31 + words[k] % 256) % 65521;
-        h = (h * 31 + words[k] / 256) % 65521;
-    }
-    return h;
-}
-
-static unsigned long sum_bodies(const uint32_t *bodies, int count)
-{
-    unsigned long h = 0;
+    uint32_t h = 0;
     for (int k = 0; k < count; k++)
-        for (int o = 0; o < 4; o++)
-            h = (h * 31 + (bodies[k] >> (8 * o)) % 256) % 65521;
+        h = cases_with_octet(cases_with_octet(h, words[k]), words[k] / 256u);
     return h;
+}
+
+static uint32_t sum_bodies(const uint32_t *bodies, int count)
+{
+    return cases_sum_words(0, bodies, (size_t)count);
 }
 
 /* a body with P right, of 27 bits of a number */
@@ -40,14 +35,14 @@ static uint32_t body(uint32_t x)
 static void write_case(const uint32_t f[6], const uint32_t *bodies, int bodies_len, uint16_t *words, int words_len)
 {
     second_verdict v = second_hd_write(f[0], f[1], f[2], f[3], f[4], f[5], bodies, (size_t)bodies_len, words, (size_t)words_len);
-    printf("write %u %u %lu\n", v.number, v.place, sum_words(words, words_len));
+    printf("write %u %u %u\n", v.number, v.place, sum_words(words, words_len));
 }
 
 static void read_case(const uint16_t *words, int words_len, int bodies_len)
 {
     uint32_t bodies[5] = {7, 7, 7, 7, 7};
     second_hd_read_answer a = second_hd_read(words, (size_t)words_len, bodies, (size_t)bodies_len);
-    printf("read %u %u %u %u %u %u %u %u %lu\n", a.number, a.place, a.group, a.dbn, a.phase, a.ck12, a.z1, a.z2, sum_bodies(bodies, bodies_len));
+    printf("read %u %u %u %u %u %u %u %u %u\n", a.number, a.place, a.group, a.dbn, a.phase, a.ck12, a.z1, a.z2, sum_bodies(bodies, bodies_len));
 }
 
 static void repair_case(const uint16_t *words, int words_len, int out_len)
@@ -56,7 +51,7 @@ static void repair_case(const uint16_t *words, int words_len, int out_len)
     for (int k = 0; k < 32; k++)
         out[k] = 9;
     second_hd_repair_answer a = second_hd_repair(words, (size_t)words_len, out, (size_t)out_len);
-    printf("repair %u %u %u %lu\n", a.number, a.place, a.lanes, sum_words(out, out_len));
+    printf("repair %u %u %u %u\n", a.number, a.place, a.lanes, sum_words(out, out_len));
 }
 
 /* one bit of one word, all sixteen */

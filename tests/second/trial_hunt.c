@@ -1,16 +1,13 @@
 /* What the trial program trial_hunt must print, over the second program's own search. `make expected` writes its output. */
+#include "cases.h"
 #include "second.h"
 #include <stdio.h>
 #include <string.h>
 
-static uint32_t state = 1;
-
 static void draw(uint8_t *line, size_t n)
 {
-    for (size_t i = 0; i < n; i++) {
-        state = (uint32_t)((uint64_t)state * 1664525u + 1013904223u);
-        line[i] = (uint8_t)(state / 65536u % 256u);
-    }
+    for (size_t i = 0; i < n; i++)
+        line[i] = (uint8_t)(cases_draw() % 256u);
 }
 
 /* Symbols outside the line are left out. */
@@ -59,7 +56,7 @@ int main(void)
         tell(line, (size_t)n);
     }
     tell(most, 8192);
-    state = 7;
+    cases_start(7);
     draw(most, 8193);
     tell(most, 8192);
     memset(most, 0, 8193);

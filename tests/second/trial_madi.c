@@ -1,39 +1,10 @@
 /* What crates/trial_madi prints, from the second program: MADI frames written, read back and damaged, and frames put together unit by
    unit. `make expected` writes its output. */
+#include "cases.h"
 #include "second.h"
 #include "spoil.h"
 #include <stdio.h>
 #include <string.h>
-
-static uint32_t next(uint32_t x)
-{
-    return (uint32_t)(((uint64_t)x * 1664525 + 1013904223) % 4294967296);
-}
-
-static uint32_t more(uint32_t h, uint32_t octet)
-{
-    return (h % 65521 * 31 + octet % 256) % 65521;
-}
-
-static uint32_t more_word(uint32_t h, uint32_t w)
-{
-    return more(more(more(more(h, w), w / 256), w / 65536), w / 16777216);
-}
-
-static uint32_t sum_octets(const uint8_t *line, size_t n)
-{
-    uint32_t h = 0;
-    for (size_t i = 0; i < n; i++)
-        h = more(h, line[i]);
-    return h;
-}
-
-static uint32_t sum_words(uint32_t h, const uint32_t *words, size_t n)
-{
-    for (size_t i = 0; i < n; i++)
-        h = more_word(h, words[i]);
-    return h;
-}
 
 static uint32_t word(uint32_t raw)
 {
@@ -44,7 +15,7 @@ static uint32_t word(uint32_t raw)
 static uint32_t fill_words(uint32_t x, uint32_t *words, size_t n)
 {
     for (size_t i = 0; i < n; i++) {
-        x = next(x);
+        x = cases_next(x);
         words[i] = word(x);
     }
     return x;
@@ -53,13 +24,13 @@ static uint32_t fill_words(uint32_t x, uint32_t *words, size_t n)
 static void write_case(uint32_t channels, const uint32_t *words, size_t count, uint32_t syncs, uint32_t level, uint8_t *line, size_t n)
 {
     second_verdict v = second_madi_write(channels, words, count, syncs, level, line, n);
-    printf("w %u %u %u\n", v.number, v.place, sum_octets(line, n));
+    printf("w %u %u %u\n", v.number, v.place, cases_sum(line, n));
 }
 
 static void read_case(uint32_t channels, uint32_t level, uint32_t bits, const uint8_t *line, size_t n, uint32_t *words, size_t slots)
 {
     second_madi_read_answer a = second_madi_read(channels, level, bits, line, n, words, slots);
-    printf("r %u %u %u %u %u\n", a.number, a.place, a.active, a.syncs, sum_words(0, words, slots));
+    printf("r %u %u %u %u %u\n", a.number, a.place, a.active, a.syncs, cases_sum_words(0, words, slots));
 }
 
 static uint32_t there_and_back(uint32_t channels, size_t count, uint32_t syncs, uint32_t level, uint32_t seed)
@@ -139,8 +110,8 @@ static void damaged(uint32_t level, uint32_t seed)
             back[k] = 9;
         line[c / 8] ^= (uint8_t)(1u << (7 - c % 8));
         second_madi_read_answer a = second_madi_read(56, level, 2260, line, sizeof line, back, 56);
-        h = a.number == 0 ? more_word(more_word(h, a.active), a.syncs) : more_word(more_word(h, a.number), a.place);
-        h = sum_words(h, back, 56);
+        h = a.number == 0 ? cases_with_word(cases_with_word(h, a.active), a.syncs) : cases_with_word(cases_with_word(h, a.number), a.place);
+        h = cases_sum_words(h, back, 56);
         line[c / 8] ^= (uint8_t)(1u << (7 - c % 8));
         if (c % 113 == 112)
             printf("d %u\n", h);
@@ -197,7 +168,7 @@ static void read_row(uint32_t channels, uint32_t level)
     uint32_t back[66];
     for (int k = 0; k < 66; k++)
         back[k] = 7;
-    printf("f %u %u\n", row.bits, sum_octets(line, sizeof line));
+    printf("f %u %u\n", row.bits, cases_sum(line, sizeof line));
     read_case(channels, level, row.bits, line, (row.bits + 7) / 8, back, channels);
 }
 
@@ -207,8 +178,8 @@ static uint32_t read_row_sum(uint32_t h, uint32_t channels, uint32_t level, uint
     for (int k = 0; k < 66; k++)
         back[k] = 9;
     second_madi_read_answer a = second_madi_read(channels, level, bits, line, (bits + 7) / 8, back, channels);
-    h = a.number == 0 ? more_word(more_word(h, a.active), a.syncs) : more_word(more_word(h, a.number), a.place);
-    return sum_words(h, back, channels);
+    h = a.number == 0 ? cases_with_word(cases_with_word(h, a.active), a.syncs) : cases_with_word(cases_with_word(h, a.number), a.place);
+    return cases_sum_words(h, back, channels);
 }
 
 static uint32_t either(uint32_t k)
