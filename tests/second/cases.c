@@ -50,3 +50,18 @@ uint32_t cases_sum_words(uint32_t sum, const uint32_t *words, size_t n)
         sum = cases_with_word(sum, words[i]);
     return sum;
 }
+
+uint32_t cases_shown(int32_t sample)
+{
+    if (sample < -8388608 || sample > 8388607)
+        return 16777216u;
+    return (uint32_t)sample & 16777215u;
+}
+
+uint32_t cases_sum_samples(const int32_t *samples, size_t n)
+{
+    uint32_t sum = 0;
+    for (size_t i = 0; i < n; i++)
+        sum = cases_with_word(sum, cases_shown(samples[i]));
+    return sum;
+}

@@ -17,4 +17,8 @@ uint32_t cases_with_word(uint32_t sum, uint32_t word);
 uint32_t cases_sum(const uint8_t *octets, size_t n);
 uint32_t cases_sum_words(uint32_t sum, const uint32_t *words, size_t n);
 
+/* The 24 bits of a sample, or 2^24 for one that is out of range; and the sum of some. */
+uint32_t cases_shown(int32_t sample);
+uint32_t cases_sum_samples(const int32_t *samples, size_t n);
+
 #endif

@@ -3,16 +3,6 @@
 #include "second.h"
 #include <stdio.h>
 
-static unsigned sum_samples(const int32_t *samples, size_t n)
-{
-    unsigned h = 0;
-    for (size_t i = 0; i < n; i++) {
-        uint32_t s = samples[i] < -8388608 || samples[i] > 8388607 ? 16777216u : (uint32_t)samples[i] & 16777215u;
-        h = cases_with_word(h, s);
-    }
-    return h;
-}
-
 static int32_t samples[384], s[384];
 static uint8_t side[144], t[144], line[3072];
 
@@ -58,7 +48,7 @@ static void tell_read(size_t l, size_t m, size_t n)
 {
     second_aes3_read_answer a = second_aes3_read(line, l, s, m, t, n);
     printf(" read %u %u %u %u %u %u\n", (unsigned)a.number, (unsigned)a.place, (unsigned)a.crcc_a, (unsigned)a.crcc_b,
-           sum_samples(s, m), cases_sum(t, n));
+           cases_sum_samples(s, m), cases_sum(t, n));
 }
 
 static void block(unsigned k)

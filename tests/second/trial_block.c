@@ -53,13 +53,6 @@ static int32_t sample_in(uint32_t x)
 }
 
 /* a sample as the trial prints it: its 24 bits, or 2^24 */
-static uint32_t shown_sample(int32_t s)
-{
-    if (outside(s))
-        return 16777216;
-    return s < 0 ? (uint32_t)(s + 16777216) : (uint32_t)s;
-}
-
 /* ---- bodies */
 
 static uint32_t digit(uint32_t i, uint32_t rare)
@@ -74,7 +67,7 @@ static void writes(void)
     for (uint32_t i = 0; i < 800; i++) {
         uint32_t r = draw_wide(), v = digit(i, 17), u = digit(i, 19), c = digit(i, 23);
         int32_t s = i % 9 < 6 ? ends[i % 9] : sample_in(r);
-        printf("write %u %u %u %u", shown_sample(s), v, u, c);
+        printf("write %u %u %u %u", cases_shown(s), v, u, c);
         if (v > 1 || u > 1 || c > 1)
             printf(" 2 0 0\n");
         else if (outside(s))
@@ -92,8 +85,8 @@ static void read_one(uint32_t body)
     else if (ones(body) % 2 == 1)
         printf(" 9 0");
     else
-        printf(" 0 0 %u %d %d %d", shown_sample(sample_in(body)), bit(body, 28), bit(body, 29), bit(body, 30));
-    printf(" %u\n", shown_sample(sample_in(body)));
+        printf(" 0 0 %u %d %d %d", cases_shown(sample_in(body)), bit(body, 28), bit(body, 29), bit(body, 30));
+    printf(" %u\n", cases_shown(sample_in(body)));
 }
 
 static void reads(void)
@@ -269,7 +262,7 @@ static void block_case(int kind)
     printf(" %u 0 0", (unsigned)h);
     h = 0;
     for (int i = 0; i < 384; i++)
-        h = cases_with_word(h, shown_sample(kept[i]));
+        h = cases_with_word(h, cases_shown(kept[i]));
     printf(" %u %u %d %d 0\n", (unsigned)h, (unsigned)cases_sum(side, 144), right(side, 0), right(side, 1));
 }
 

@@ -2,7 +2,7 @@
 // buffer, and the sums by which buffers are compared.
 ghost use mathlib.Core.Path.{_≡_};
 ghost use lib.ListN.{length};
-ghost use Rattle.cases.specs.Cases.{next, octetOf, joined, drawn, after, over, withOctet, withWord};
+ghost use Rattle.cases.specs.Cases.{next, octetOf, joined, drawn, after, over, withOctet, withWord, shown, withSample};
 
 // The number after x.
 pub fn next(x: u32) -> u32
@@ -85,6 +85,30 @@ pub fn sum_words(from: u64, words: &[u32]) -> u64
     let mut i = 0;
     while i < words.len() {
         sum = with_word(sum, words[i]);
+        i += 1;
+    }
+    sum
+}
+
+// The 24 bits of a sample; 2^24 for one that is out of range.
+pub fn shown(sample: i32) -> u32
+    ensures { λ r. ⌜ r ≡ shown sample ⌝ }
+{
+    if subframe::in_range(sample) {
+        return ((sample + 16777216) as u32) % 16777216;
+    }
+    16777216
+}
+
+// The sum of some samples.
+pub fn sum_samples(samples: &[i32]) -> u64
+    ensures { λ r. ⌜ r ≡ over withSample 0 (now (samples .entry)) ⌝ }
+{
+    let mut sum = 0;
+    let mut i = 0;
+    while i < samples.len() {
+        let x = samples[i];
+        sum = with_word(sum, shown(x));
         i += 1;
     }
     sum

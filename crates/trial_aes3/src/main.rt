@@ -4,8 +4,7 @@ use cases::join;
 use cases::next;
 use cases::octet;
 use cases::sum;
-use cases::with_word;
-use subframe::BodyAnswer;
+use cases::sum_samples;
 use write_answer::WriteAnswer;
 
 fn number(n: u64) {
@@ -18,25 +17,6 @@ fn end() {
 }
 
 // ---- sums that every octet counts in
-
-// The 24 bits of a sample; 2^24 for one that is out of range.
-fn raised(sample: i32) -> u32 {
-    let BodyAnswer::Body(b) = subframe::write_body(sample, 0, 0, 0) else {
-        return 16777216;
-    };
-    b / 16 % 16777216
-}
-
-fn sum_samples(samples: &[i32]) -> u64 {
-    let mut h: u64 = 0;
-    let mut i: usize = 0;
-    while i < samples.len() {
-        let x = samples[i];
-        h = with_word(h, raised(x));
-        i += 1;
-    }
-    h
-}
 
 // ---- a case: silent (1), full scale (2), else drawn
 

@@ -4,8 +4,8 @@ use cases::draw;
 use cases::join;
 use cases::next;
 use cases::sum;
+use cases::sum_samples;
 use cases::sum_words;
-use cases::with_word;
 use subframe::BodyAnswer;
 use subframe::FieldsAnswer;
 
@@ -24,26 +24,6 @@ fn truth(b: bool) {
     } else {
         number(0);
     }
-}
-
-// The 24 bits of a sample; 2^24 for one that is out of range.
-fn raised(sample: i32) -> u32 {
-    if subframe::in_range(sample) {
-        ((sample + 16777216) as u32) % 16777216
-    } else {
-        16777216
-    }
-}
-
-fn sum_samples(samples: &[i32]) -> u64 {
-    let mut h: u64 = 0;
-    let mut i: usize = 0;
-    while i < samples.len() {
-        let x = samples[i];
-        h = with_word(h, raised(x));
-        i += 1;
-    }
-    h
 }
 
 // ---- bodies written: the ends of the range, samples in it and any samples; now and then a V, U or C that is no bit
@@ -73,7 +53,7 @@ fn digit(i: u32, rare: u32, x: u32) -> u32 {
 
 fn write(sample: i32, v: u32, u: u32, c: u32) {
     io::write_all(1, b"write");
-    number(raised(sample) as u64);
+    number(cases::shown(sample) as u64);
     number(v as u64);
     number(u as u64);
     number(c as u64);
@@ -126,7 +106,7 @@ fn read(body: u32) {
         FieldsAnswer::Fields { sample, v, u, c } => {
             number(0);
             number(0);
-            number(raised(sample) as u64);
+            number(cases::shown(sample) as u64);
             number(v as u64);
             number(u as u64);
             number(c as u64);
@@ -136,7 +116,7 @@ fn read(body: u32) {
             number(place as u64);
         }
     }
-    number(raised(subframe::sample_of(body)) as u64);
+    number(cases::shown(subframe::sample_of(body)) as u64);
     end();
 }
 
