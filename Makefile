@@ -1,6 +1,9 @@
 # make report      runs the report program on a file of records (RECORDS=file for another one)
-# make test        layout, contracts, the C programs by themselves, then all proofs, must-fail edits and programs
+# make test        everything: layout, contracts, papers, the C programs by themselves, all proofs, wrong answers and
+#                  programs, and the C boundary over what was proved; its last line is the verdict of rt ci, given only
+#                  if all passed
 # make boundary    the C boundary: the library beside the second program, call by call, and the example driver
+# make promises    makes docs/WRONG-ANSWERS.md anew, from the sheets of wrong answers
 # make lib         proves the library and builds target/staticlib/liblampcoil.a for C on x86-64
 # make install     puts archive, header, pkg-config file, report program and its manual page under DESTDIR and PREFIX
 # make uninstall   takes them away
@@ -11,14 +14,16 @@
 # make clean       removes what was built
 .POSIX:
 .NOTPARALLEL:
-.PHONY: report test boundary lib program install uninstall bench expected mutants clean header second held hand listed compare card installed
+.PHONY: report test read alone proofs edits boundary lib program install uninstall bench expected mutants promises clean header second \
+	held hand listed compare card installed
 
 VERSION = 1.0.0
 PREFIX = /usr/local
 DESTDIR =
 RECORDS = examples/desk.rec
 
-# Crates and edits that are tried at a time: more than a small machine has processors, since each batch waits for its slowest.
+# Crates and edits that are tried at a time: more than a small machine has processors, since each batch waits for its
+# slowest.
 JOBS = 8
 
 CC = cc
@@ -35,7 +40,8 @@ HAND = bench/hand_aes3.c bench/hand_madi.c bench/hand_hd.c
 
 # ---- the library and the report program
 
-# What the library sees is proved first, several crates at a time; rt staticlib alone would take them one after the other.
+# What the library sees is proved first, several crates at a time; rt staticlib alone would take them one after the
+# other.
 lib $(ARCHIVE):
 	RT_JOBS=$(JOBS) rt check $$(sed -n 's/^lampcoil: //p' crates.txt)
 	rt staticlib lampcoil
@@ -48,13 +54,37 @@ report: program
 
 # ---- tests
 
-# rt ci removes target/ and has the last word; what needs the archive comes after it, when the library is proved.
-test: header second held hand
+# In this order, one after the other. rt ci removes target/, so what needs the archive comes after it, when the
+# library is proved; its verdict is held back till everything else has passed, and a failure anywhere ends this
+# without it.
+test: read alone proofs edits boundary
+	@echo "logs: build/ci.log (rt ci, whole), target/log (each crate), target/must-fail (each sheet), build (the C programs)"
+	@cat build/verdict
+
+# What is read without running anything: the layout, the contracts, what proofs open, the papers.
+read:
 	rt fmt --check
 	tests/contracts
-	RT_JOBS=$(JOBS) rt ci
+	tests/unfoldings
+	tests/promises
+	tests/papers
+
+# The C programs by themselves.
+alone: header second held hand
+
+# All proofs, wrong answers and programs; and then why each wrong answer was refused.
+proofs:
+	RT_JOBS=$(JOBS) tests/proofs
+
+edits:
+	tests/edits
 
 boundary: lib listed compare card
+
+promises:
+	@mkdir -p build
+	tests/promises --list >build/wrong-answers.md
+	cp build/wrong-answers.md docs/WRONG-ANSWERS.md
 
 # The second program under the library's names, for its own tests and for what is made from it.
 build/stand_in.o: $(SECOND) tests/second/second.h

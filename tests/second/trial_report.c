@@ -1,4 +1,5 @@
-/* What the trial program trial_report must print: the second program's report on each of its inputs. `make expected` writes its output. */
+/* What the trial program trial_report must print: the second program's report on each of its inputs. `make expected`
+   writes its output. */
 #define main report_main
 #include "report.c"
 #undef main

@@ -1,2 +1,1 @@
-pub mod LineTrips
 pub mod BlockTrips

@@ -1,4 +1,5 @@
 pub mod HeldTable
 pub mod Reading
-pub mod Decoding
 pub mod BlockReading
+pub mod Residue
+pub mod Said

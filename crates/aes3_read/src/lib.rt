@@ -5,27 +5,26 @@ ghost use Prim.Native.Nat.{_<_};
 ghost use lib.ListN.{length};
 ghost use Rattle.bits.specs.Row.{odd, digit, bigBits, little};
 ghost use Rattle.bits.specs.Pack.{symbols};
+ghost use Rattle.answer.specs.Answer.{mapped, verdict, after};
+ghost use Rattle.answer.specs.Said.{verdictSaid, numberSaid};
 ghost use Rattle.line.specs.Biphase.{held};
-ghost use Rattle.block_check.specs.Check.{statusRight};
-ghost use Rattle.aes3_code.specs.Subframe.{subframeRead, subframeNumber};
-ghost use Rattle.aes3_code.specs.Line.{bodiesOn};
-ghost use Rattle.aes3_read.specs.Reader.{readAnswer, samplesRead, sideRead};
+ghost use Rattle.block.specs.Block.{samplesOf, sideOf};
+ghost use Rattle.block.specs.Check.{statusRight};
+ghost use Rattle.aes3_line.specs.Subframe.{subframeRead};
+ghost use Rattle.aes3_line.specs.Line.{bodiesOn};
+ghost use Rattle.aes3_read.specs.Reader.{readAnswer, crccs, blockSaid};
 ghost use Rattle.aes3_read.specs.Inner.{heldTable, decoded};
 
 mod tables;
 
-use aes3_code::SubframeAnswer;
+use answer::NumberAnswer;
+use answer::Verdict;
+use block::SIDE;
 use tables::HELD;
 
 // What reading a block answers: for each channel 1 where its CRCC is right, else 0; or a refusal.
 pub enum ReadAnswer {
     Read { crcc_a: u32, crcc_b: u32 },
-    Refused { number: u32, place: u32 },
-}
-
-// All subframes of a line read, or the first refusal.
-pub enum Decoded {
-    Whole,
     Refused { number: u32, place: u32 },
 }
 
@@ -53,45 +52,54 @@ fn read_slots(table: &[u8], w: u64) -> u32
 }
 
 // 64 symbols read as subframe i after level 0.
-fn read_word(table: &[u8], i: usize, w: u64) -> SubframeAnswer
-    requires { ⌜ now table ≡ heldTable ⌝ }
-    ensures { λ r. ⌜ r ≡ subframeRead i false (bigBits 64 w) ⌝ }
+fn read_word(table: &[u8], i: usize, w: u64) -> NumberAnswer
+    requires { ⌜ (now table ≡ heldTable) × (i < 384) ⌝ }
+    ensures { λ r. ⌜ numberSaid r ≡ subframeRead i false (bigBits 64 w) ⌝ }
 {
-    if w / 0x100_0000_0000_0000 != aes3_code::due_octet(i) as u64 {
-        return SubframeAnswer::Refused(7);
+    if w / 0x100_0000_0000_0000 != aes3_line::due_octet(i) as u64 {
+        return NumberAnswer::Refused {
+            number: 7,
+            place: i as u32,
+        };
     }
     // a change at the first symbol of every slot
     if (w ^ (w / 2)) & 0xAA_AAAA_AAAA_AAAA != 0xAA_AAAA_AAAA_AAAA {
-        return SubframeAnswer::Refused(8);
+        return NumberAnswer::Refused {
+            number: 8,
+            place: i as u32,
+        };
     }
-    // an even number of ones leaves the level as it was
-    if w % 2 != 0 {
-        return SubframeAnswer::Refused(9);
+    let body = read_slots(table, w) * 16;
+    if subframe::parity(body) != 0 {
+        return NumberAnswer::Refused {
+            number: 9,
+            place: i as u32,
+        };
     }
-    SubframeAnswer::Body(read_slots(table, w) * 16)
+    NumberAnswer::Number(body)
 }
 
 // Eight octets read as subframe i after a level.
-fn read_subframe(table: &[u8], i: usize, level: u32, part: &[u8]) -> SubframeAnswer
-    requires { ⌜ (now table ≡ heldTable) × (level < 2) × (length (now part) ≡ 8) ⌝ }
-    ensures { λ r. ⌜ r ≡ subframeRead i (odd level) (symbols (now (part .entry))) ⌝ }
+fn read_subframe(table: &[u8], i: usize, level: u32, part: &[u8]) -> NumberAnswer
+    requires { ⌜ (now table ≡ heldTable) × (i < 384) × (length (now part) ≡ 8) ⌝ }
+    ensures { λ r. ⌜ numberSaid r ≡ subframeRead i (odd level) (symbols (now (part .entry))) ⌝ }
 {
-    read_word(table, i, aes3_code::turned(level, line::word(part, 0)))
+    read_word(table, i, aes3_line::after_level(level, line::word(part, 0)))
 }
 
-// The number of a subframe's answer; 0 for a body.
-fn number(answer: SubframeAnswer) -> u32
-    ensures { λ r. ⌜ r ≡ subframeNumber answer ⌝ }
+// A subframe's answer without its body.
+fn without_body(answer: NumberAnswer) -> Verdict
+    ensures { λ r. ⌜ verdictSaid r ≡ verdict (numberSaid answer) ⌝ }
 {
     match answer {
-        SubframeAnswer::Body(_) => 0,
-        SubframeAnswer::Refused(n) => n,
+        NumberAnswer::Number(_) => Verdict::Accepted,
+        NumberAnswer::Refused { number, place } => Verdict::Refused { number, place },
     }
 }
 
-// All subframes of a line, their bodies into a buffer; after a refusal the buffer holds those before it. A subframe that is accepted
-// leaves the level as it was.
-fn decode(table: &[u8], line: &[u8], bodies: &mut [u32]) -> Decoded
+// All subframes of a line, their bodies into a buffer; after a refusal the buffer holds those before it. A subframe
+// that is accepted leaves the level as it was.
+fn decode(table: &[u8], line: &[u8], bodies: &mut [u32]) -> Verdict
     requires { ⌜ (now table ≡ heldTable) × (length (now line) ≡ 3072) × (length (now bodies) ≡ 384) ⌝ }
     ensures { λ r. ⌜ decoded r (now (bodies .exit)) ≡ bodiesOn (now (line .entry)) ⌝ }
 {
@@ -101,20 +109,17 @@ fn decode(table: &[u8], line: &[u8], bodies: &mut [u32]) -> Decoded
         let a = i * 8;
         let e = a + 8;
         let answer = read_subframe(table, i, level, &line[a..e]);
-        let SubframeAnswer::Body(b) = answer else {
-            return Decoded::Refused {
-                number: number(answer),
-                place: i as u32,
-            };
+        let NumberAnswer::Number(b) = answer else {
+            return without_body(answer);
         };
         bodies[i] = b;
         i += 1;
     }
-    Decoded::Whole
+    Verdict::Accepted
 }
 
 // The same with the table laid out.
-fn decode_line(line: &[u8], bodies: &mut [u32]) -> Decoded
+fn decode_line(line: &[u8], bodies: &mut [u32]) -> Verdict
     requires { ⌜ (length (now line) ≡ 3072) × (length (now bodies) ≡ 384) ⌝ }
     ensures { λ r. ⌜ decoded r (now (bodies .exit)) ≡ bodiesOn (now (line .entry)) ⌝ }
 {
@@ -126,17 +131,18 @@ fn decode_line(line: &[u8], bodies: &mut [u32]) -> Decoded
 fn crcc(side: &[u8], channel: usize) -> u32
     ensures { λ r. ⌜ r ≡ digit (statusRight (now (side .entry)) channel) ⌝ }
 {
-    if block_check::status_right(side, channel) {
+    if block::status_right(side, channel) {
         return 1;
     }
     0
 }
 
-// Reads a block into samples and side table, and says whether the CRCC of each channel is right. A refusal leaves both buffers as they were.
+// Reads a block into samples and side table, and says whether the CRCC of each channel is right. A refusal leaves both
+// buffers as they were.
 pub fn read_block(line: &[u8], samples: &mut [i32], side: &mut [u8]) -> ReadAnswer
-    ensures { λ r. ⌜ r ≡ readAnswer (now (line .entry)) (length (now (samples .entry))) (length (now (side .entry))) ⌝ }
-    ensures { λ _. ⌜ now (samples .exit) ≡ samplesRead (now (line .entry)) (now (samples .entry)) (length (now (side .entry))) ⌝ }
-    ensures { λ _. ⌜ now (side .exit) ≡ sideRead (now (line .entry)) (length (now (samples .entry))) (now (side .entry)) ⌝ }
+    ensures { λ r. ⌜ blockSaid r ≡ mapped crccs (readAnswer (now (line .entry)) (length (now (samples .entry))) (length (now (side .entry)))) ⌝ }
+    ensures { λ _. ⌜ now (samples .exit) ≡ after samplesOf (readAnswer (now (line .entry)) (length (now (samples .entry))) (length (now (side .entry)))) (now (samples .entry)) ⌝ }
+    ensures { λ _. ⌜ now (side .exit) ≡ after sideOf (readAnswer (now (line .entry)) (length (now (samples .entry))) (length (now (side .entry)))) (now (side .entry)) ⌝ }
 {
     if line.len() != 3072 {
         return ReadAnswer::Refused {
@@ -150,7 +156,7 @@ pub fn read_block(line: &[u8], samples: &mut [i32], side: &mut [u8]) -> ReadAnsw
             place: 0,
         };
     }
-    if side.len() != 144 {
+    if side.len() != SIDE {
         return ReadAnswer::Refused {
             number: 1,
             place: 0,
@@ -158,7 +164,7 @@ pub fn read_block(line: &[u8], samples: &mut [i32], side: &mut [u8]) -> ReadAnsw
     }
     let mut bodies = [0u32; 384];
     let got = decode_line(line, &mut bodies);
-    if let Decoded::Refused { number, place } = got {
+    if let Verdict::Refused { number, place } = got {
         return ReadAnswer::Refused { number, place };
     }
     block::fill_block(&bodies, samples, side);

@@ -1,29 +1,35 @@
--- The answer of a block's writer, from what was found of samples and side table. Assumes nothing.
-use mathlib.Core.Path.{_≡_, refl}
+-- The answer of a block's writer: its line fills the buffer, and what it accepts and refuses goes by its demands.
+-- Assumes nothing.
+use mathlib.Core.Path.{_≡_, refl, ap, _∙_}
 use mathlib.Core.List.{List}
-use Prim.Native.Nat.{ℕ, _<_}
-use borrow.Author.Tests.{lt-ltb}
+use Prim.Native.Nat.{ℕ, _*_}
 use lib.IntN.{ℤ}
 use lib.ListN.{length}
-use Rattle.block_check.specs.Check.{checked}
-use Rattle.block_check.specs.declared.BlockAnswer.the-variants.{Sound}
-use Rattle.block_check.specs.declared.BlockAnswer.the-variants.{Refused as Unsound}
-use Rattle.aes3_write.specs.Writer.{blockLine, toWrite, writeAnswer, lineWritten}
-use Rattle.write_answer.specs.declared.WriteAnswer.the-variants.{Written, Refused}
+use Rattle.bits.specs.Row.{odd}
+use Rattle.answer.specs.Answer.{Answer.accepted}
+use Rattle.answer.specs.Demand.{AllMet}
+use Rattle.answer.proofs.Chains.{met, passing}
+use Rattle.block.specs.Block.{bodiesOf}
+use Rattle.block.proofs.BlockLaws.{length-bodies}
+use Rattle.aes3_line.specs.Line.{lineFrom}
+use Rattle.aes3_line.proofs.LineTrips.{length-line}
+use Rattle.aes3_write.specs.Writer.{blockLine, writeDemands, writeAnswer}
 
-module _ (samples : List ℤ) (side : List ℕ) (level : ℕ) (line : List ℕ)
-    (ns : length samples ≡ 384) (nt : length side ≡ 144) (nl : length line ≡ 3072) (h : level < 2) where
-  -- with the right lengths and level it goes by samples and side table
-  by-block : writeAnswer samples side level (length line) ≡ toWrite (checked samples side)
+module _ (samples : List ℤ) (side : List ℕ) (level : ℕ) where
+  pub block-line : blockLine samples side level ≡ lineFrom 0 (odd level) (bodiesOf samples side)
+  unfolding blockLine
+  block-line = refl
+
+  pub length-block : length (blockLine samples side level) ≡ 3072
+  length-block = ap length block-line ∙ length-line 0 (odd level) (bodiesOf samples side) ∙ ap (λ (n : ℕ). n * 8) (length-bodies samples side)
+
+  -- accepted exactly if every demand is met, and then with this line
+  pub write-met : (room : ℕ) (line : List ℕ) → writeAnswer samples side level room ≡ accepted line
+      → AllMet (writeDemands samples side level room) × (blockLine samples side level ≡ line)
   unfolding writeAnswer
-  by-block = rw (ns, nt, nl, lt-ltb level 2 h)
+  write-met room line e = met (blockLine samples side level) (writeDemands samples side level room) e
 
-  pub unsound : (n p : ℕ) → checked samples side ≡ Unsound n p
-      → (Refused n p ≡ writeAnswer samples side level (length line)) × (line ≡ lineWritten samples side level line)
-  unfolding lineWritten
-  unsound n p e = rw (by-block, e) (refl, refl)
-
-  pub written : (new : List ℕ) → checked samples side ≡ Sound → new ≡ blockLine samples side level
-      → (Written ≡ writeAnswer samples side level (length line)) × (new ≡ lineWritten samples side level line)
-  unfolding lineWritten
-  written new e b = rw (by-block, e) (refl, b)
+  pub write-passing : (room : ℕ) → AllMet (writeDemands samples side level room)
+      → writeAnswer samples side level room ≡ accepted (blockLine samples side level)
+  unfolding writeAnswer
+  write-passing room m = passing (accepted (blockLine samples side level)) (writeDemands samples side level room) m

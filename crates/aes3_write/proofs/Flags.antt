@@ -12,12 +12,12 @@ use Rattle.bits.specs.Listed.{listed}
 use Rattle.bits.proofs.Every.{agree}
 use Rattle.bits.proofs.Lists.{length-listed, getD-listed}
 use Rattle.subframe.specs.Signed.{inRange, codeOf}
-use Rattle.subframe.proofs.SignedLaws.{code-lt}
-use Rattle.side.proofs.SideLaws.{side-lt, side-in}
-use Rattle.subframe.proofs.BodyTrips.{written-in}
+use Rattle.subframe.specs.Body.{parityOf}
+use Rattle.subframe.proofs.BodyLaws.{body-laid}
+use Rattle.block.specs.Side.{columns, columnLength}
 use Rattle.block.specs.Block.{sideAt, bodyAt}
-use Rattle.block.proofs.BlockLaws.{body-told}
-use Rattle.aes3_write.specs.Inner.{bodyWith, flags, flagsFrom, spread, spreadTable}
+use Rattle.block.proofs.BlockLaws.{side-digit, side-octet, body-in}
+use Rattle.aes3_write.specs.Inner.{bodyWith, flags, flagsFrom, spread, spreadTable, octetIn, eightFlags}
 
 -- ---- an octet's bits apart
 
@@ -51,101 +51,109 @@ module _ (table : List ℕ) (t : table ≡ spreadTable) where
 
 -- ---- sixteen subframes
 
-field-at : (side : List ℕ) (field j ch f i o : ℕ) → field < 3 → j < 24 → ch < 2 → f < 8 → i ≡ 16 * j + 2 * f + ch → o ≡ 72 * ch + 24 * field + j
-    → sideAt side field i ≡ bit f (getD side o 0)
-unfolding sideAt
-field-at side field j ch f i o hk hj hc hf e a =
-    let p : i / 2 % 8 ≡ f = omega arith in
-    let q : 24 * (3 * (i % 2) + field) + i / 2 / 8 ≡ o = omega arith in
-    side-in side (3 * (i % 2) + field) (i / 2) (omega arith) (omega arith) ∙ ap₂ (λ (b o : ℕ). bit b (getD side o 0)) p q
+-- V, U and C of frame f of eight
+abbrev flagAt : List ℕ → ℕ → ℕ → ℕ → ℕ
+flagAt side ch j f = bit f (octetIn side ch 0 j) + bit f (octetIn side ch 1 j) * 2 + bit f (octetIn side ch 2 j) * 4
 
-flags-at : (side : List ℕ) (j ch f i a b c : ℕ) → j < 24 → ch < 2 → f < 8 → i ≡ 16 * j + 2 * f + ch → a ≡ 72 * ch + j → b ≡ 72 * ch + 24 + j
-    → c ≡ 72 * ch + 48 + j → flags side i ≡ bit f (getD side a 0) + bit f (getD side b 0) * 2 + bit f (getD side c 0) * 4
-unfolding flags
-flags-at side j ch f i a b c hj hc hf e ea eb ec =
-    rw (
-      field-at side 0 j ch f i a (omega arith) hj hc hf e (omega arith),
-      field-at side 1 j ch f i b (omega arith) hj hc hf e (omega arith),
-      field-at side 2 j ch f i c (omega arith) hj hc hf e (omega arith),
+abbrev apart : (ℕ → ℕ) → ℕ
+apart v = v 0 + v 1 * 2 ^ 8 + v 2 * 2 ^ 16 + v 3 * 2 ^ 24 + v 4 * 2 ^ 32 + v 5 * 2 ^ 40 + v 6 * 2 ^ 48 + v 7 * 2 ^ 56
+
+woven : (v u c : ℕ → ℕ) → apart v + apart u * 2 + apart c * 4 ≡ apart (λ k. v k + u k * 2 + c k * 4)
+woven v u c = omega arith
+
+nested : (a b r : ℕ) → a + 16 * (b + 16 * r) ≡ a + 16 * b + 256 * r
+nested a b r = omega arith
+
+chained : (a b r : ℕ → ℕ) → ((f : ℕ) → f < 8 → r f ≡ a f + 16 * b f + 256 * r (f + 1)) → r 8 ≡ 0 → apart a + apart b * 16 ≡ r 0
+chained a b r s e =
+    omega (
+      arith,
+      s 0 (omega arith),
+      s 1 (omega arith),
+      s 2 (omega arith),
+      s 3 (omega arith),
+      s 4 (omega arith),
+      s 5 (omega arith),
+      s 6 (omega arith),
+      s 7 (omega arith),
     )
 
-woven : (v u c x y z : ℕ → ℕ)
-    → (v 0 + v 1 * 2 ^ 8 + v 2 * 2 ^ 16 + v 3 * 2 ^ 24 + v 4 * 2 ^ 32 + v 5 * 2 ^ 40 + v 6 * 2 ^ 48 + v 7 * 2 ^ 56) + (u 0 + u 1 * 2 ^ 8 + u 2 * 2 ^ 16 + u 3 * 2 ^ 24 + u 4 * 2 ^ 32 + u 5 * 2 ^ 40 + u 6 * 2 ^ 48 + u 7 * 2 ^ 56) * 2 + (c 0 + c 1 * 2 ^ 8 + c 2 * 2 ^ 16 + c 3 * 2 ^ 24 + c 4 * 2 ^ 32 + c 5 * 2 ^ 40 + c 6 * 2 ^ 48 + c 7 * 2 ^ 56) * 4 + ((x 0 + x 1 * 2 ^ 8 + x 2 * 2 ^ 16 + x 3 * 2 ^ 24 + x 4 * 2 ^ 32 + x 5 * 2 ^ 40 + x 6 * 2 ^ 48 + x 7 * 2 ^ 56) + (y 0 + y 1 * 2 ^ 8 + y 2 * 2 ^ 16 + y 3 * 2 ^ 24 + y 4 * 2 ^ 32 + y 5 * 2 ^ 40 + y 6 * 2 ^ 48 + y 7 * 2 ^ 56) * 2 + (z 0 + z 1 * 2 ^ 8 + z 2 * 2 ^ 16 + z 3 * 2 ^ 24 + z 4 * 2 ^ 32 + z 5 * 2 ^ 40 + z 6 * 2 ^ 48 + z 7 * 2 ^ 56) * 4) * 16
-    ≡ (v 0 + u 0 * 2 + c 0 * 4) + 16 * ((x 0 + y 0 * 2 + z 0 * 4) + 16 * ((v 1 + u 1 * 2 + c 1 * 4) + 16 * ((x 1 + y 1 * 2 + z 1 * 4) + 16 * ((v 2 + u 2 * 2 + c 2 * 4) + 16 * ((x 2 + y 2 * 2 + z 2 * 4) + 16 * ((v 3 + u 3 * 2 + c 3 * 4) + 16 * ((x 3 + y 3 * 2 + z 3 * 4) + 16 * ((v 4 + u 4 * 2 + c 4 * 4) + 16 * ((x 4 + y 4 * 2 + z 4 * 4) + 16 * ((v 5 + u 5 * 2 + c 5 * 4) + 16 * ((x 5 + y 5 * 2 + z 5 * 4) + 16 * ((v 6 + u 6 * 2 + c 6 * 4) + 16 * ((x 6 + y 6 * 2 + z 6 * 4) + 16 * ((v 7 + u 7 * 2 + c 7 * 4) + 16 * ((x 7 + y 7 * 2 + z 7 * 4) + 16 * 0)))))))))))))))
-woven v u c x y z = omega arith
+module _ (side : List ℕ) (j : ℕ) (hj : j < columnLength) where
+  field-at : (k ch f : ℕ) → k < columns → ch < 2 → f < 8 → sideAt side k (16 * j + 2 * f + ch) ≡ bit f (octetIn side ch k j)
+  unfolding octetIn
+  field-at k ch f hk hc hf =
+      let i = 16 * j + 2 * f + ch in
+      let p : i / 2 % 8 ≡ f = omega arith in
+      let q : i % 2 ≡ ch = omega arith in
+      let o : i / 16 ≡ j = omega arith in
+      side-octet side k i hk (omega arith) ∙ rw (p, q, o)
 
-flags-sixteen : (side : List ℕ) (j : ℕ) → j < 24
-    → flagsFrom side (16 * j) 16
-    ≡ (bit 0 (getD side j 0) + bit 0 (getD side (24 + j) 0) * 2 + bit 0 (getD side (48 + j) 0) * 4) + 16 * ((bit 0 (getD side (72 + j) 0) + bit 0 (getD side (96 + j) 0) * 2 + bit 0 (getD side (120 + j) 0) * 4) + 16 * ((bit 1 (getD side j 0) + bit 1 (getD side (24 + j) 0) * 2 + bit 1 (getD side (48 + j) 0) * 4) + 16 * ((bit 1 (getD side (72 + j) 0) + bit 1 (getD side (96 + j) 0) * 2 + bit 1 (getD side (120 + j) 0) * 4) + 16 * ((bit 2 (getD side j 0) + bit 2 (getD side (24 + j) 0) * 2 + bit 2 (getD side (48 + j) 0) * 4) + 16 * ((bit 2 (getD side (72 + j) 0) + bit 2 (getD side (96 + j) 0) * 2 + bit 2 (getD side (120 + j) 0) * 4) + 16 * ((bit 3 (getD side j 0) + bit 3 (getD side (24 + j) 0) * 2 + bit 3 (getD side (48 + j) 0) * 4) + 16 * ((bit 3 (getD side (72 + j) 0) + bit 3 (getD side (96 + j) 0) * 2 + bit 3 (getD side (120 + j) 0) * 4) + 16 * ((bit 4 (getD side j 0) + bit 4 (getD side (24 + j) 0) * 2 + bit 4 (getD side (48 + j) 0) * 4) + 16 * ((bit 4 (getD side (72 + j) 0) + bit 4 (getD side (96 + j) 0) * 2 + bit 4 (getD side (120 + j) 0) * 4) + 16 * ((bit 5 (getD side j 0) + bit 5 (getD side (24 + j) 0) * 2 + bit 5 (getD side (48 + j) 0) * 4) + 16 * ((bit 5 (getD side (72 + j) 0) + bit 5 (getD side (96 + j) 0) * 2 + bit 5 (getD side (120 + j) 0) * 4) + 16 * ((bit 6 (getD side j 0) + bit 6 (getD side (24 + j) 0) * 2 + bit 6 (getD side (48 + j) 0) * 4) + 16 * ((bit 6 (getD side (72 + j) 0) + bit 6 (getD side (96 + j) 0) * 2 + bit 6 (getD side (120 + j) 0) * 4) + 16 * ((bit 7 (getD side j 0) + bit 7 (getD side (24 + j) 0) * 2 + bit 7 (getD side (48 + j) 0) * 4) + 16 * ((bit 7 (getD side (72 + j) 0) + bit 7 (getD side (96 + j) 0) * 2 + bit 7 (getD side (120 + j) 0) * 4) + 16 * 0)))))))))))))))
-unfolding flagsFrom
-flags-sixteen side j hj =
-    rw (
-      flags-at side j 0 0 (16 * j) j (24 + j) (48 + j) hj (omega arith) (omega arith) (omega arith) (omega arith) (omega arith) (omega arith),
-      flags-at side j 1 0 (suc (16 * j)) (72 + j) (96 + j) (120 + j) hj (omega arith) (omega arith) (omega arith) (omega arith) (omega arith) (omega arith),
-      flags-at side j 0 1 (suc (suc (16 * j))) j (24 + j) (48 + j) hj (omega arith) (omega arith) (omega arith) (omega arith) (omega arith) (omega arith),
-      flags-at side j 1 1 (suc (suc (suc (16 * j)))) (72 + j) (96 + j) (120 + j) hj (omega arith) (omega arith) (omega arith) (omega arith) (omega arith) (omega arith),
-      flags-at side j 0 2 (suc (suc (suc (suc (16 * j))))) j (24 + j) (48 + j) hj (omega arith) (omega arith) (omega arith) (omega arith) (omega arith) (omega arith),
-      flags-at side j 1 2 (suc (suc (suc (suc (suc (16 * j)))))) (72 + j) (96 + j) (120 + j) hj (omega arith) (omega arith) (omega arith) (omega arith) (omega arith) (omega arith),
-      flags-at side j 0 3 (suc (suc (suc (suc (suc (suc (16 * j))))))) j (24 + j) (48 + j) hj (omega arith) (omega arith) (omega arith) (omega arith) (omega arith) (omega arith),
-      flags-at side j 1 3 (suc (suc (suc (suc (suc (suc (suc (16 * j)))))))) (72 + j) (96 + j) (120 + j) hj (omega arith) (omega arith) (omega arith) (omega arith) (omega arith) (omega arith),
-      flags-at side j 0 4 (suc (suc (suc (suc (suc (suc (suc (suc (16 * j))))))))) j (24 + j) (48 + j) hj (omega arith) (omega arith) (omega arith) (omega arith) (omega arith) (omega arith),
-      flags-at side j 1 4 (suc (suc (suc (suc (suc (suc (suc (suc (suc (16 * j)))))))))) (72 + j) (96 + j) (120 + j) hj (omega arith) (omega arith) (omega arith) (omega arith) (omega arith) (omega arith),
-      flags-at side j 0 5 (suc (suc (suc (suc (suc (suc (suc (suc (suc (suc (16 * j))))))))))) j (24 + j) (48 + j) hj (omega arith) (omega arith) (omega arith) (omega arith) (omega arith) (omega arith),
-      flags-at side j 1 5 (suc (suc (suc (suc (suc (suc (suc (suc (suc (suc (suc (16 * j)))))))))))) (72 + j) (96 + j) (120 + j) hj (omega arith) (omega arith) (omega arith) (omega arith) (omega arith) (omega arith),
-      flags-at side j 0 6 (suc (suc (suc (suc (suc (suc (suc (suc (suc (suc (suc (suc (16 * j))))))))))))) j (24 + j) (48 + j) hj (omega arith) (omega arith) (omega arith) (omega arith) (omega arith) (omega arith),
-      flags-at side j 1 6 (suc (suc (suc (suc (suc (suc (suc (suc (suc (suc (suc (suc (suc (16 * j)))))))))))))) (72 + j) (96 + j) (120 + j) hj (omega arith) (omega arith) (omega arith) (omega arith) (omega arith) (omega arith),
-      flags-at side j 0 7 (suc (suc (suc (suc (suc (suc (suc (suc (suc (suc (suc (suc (suc (suc (16 * j))))))))))))))) j (24 + j) (48 + j) hj (omega arith) (omega arith) (omega arith) (omega arith) (omega arith) (omega arith),
-      flags-at side j 1 7 (suc (suc (suc (suc (suc (suc (suc (suc (suc (suc (suc (suc (suc (suc (suc (16 * j)))))))))))))))) (72 + j) (96 + j) (120 + j) hj (omega arith) (omega arith) (omega arith) (omega arith) (omega arith) (omega arith),
-    )
+  flags-at : (ch f : ℕ) → ch < 2 → f < 8 → flags side (16 * j + 2 * f + ch) ≡ flagAt side ch j f
+  unfolding flags
+  flags-at ch f hc hf = rw (field-at 0 ch f (omega arith) hc hf, field-at 1 ch f (omega arith) hc hf, field-at 2 ch f (omega arith) hc hf)
 
-pub sixteen-laid : (side : List ℕ) (j va ua ca vb ub cb : ℕ) → j < 24 → va ≡ spread (getD side j 0) → ua ≡ spread (getD side (24 + j) 0)
-    → ca ≡ spread (getD side (48 + j) 0) → vb ≡ spread (getD side (72 + j) 0) → ub ≡ spread (getD side (96 + j) 0)
-    → cb ≡ spread (getD side (120 + j) 0) → va + ua * 2 + ca * 4 + (vb + ub * 2 + cb * 4) * 16 ≡ flagsFrom side (16 * j) 16
-unfolding spread
-sixteen-laid side j va ua ca vb ub cb hj e1 e2 e3 e4 e5 e6 =
-    rw (e1, e2, e3, e4, e5, e6)
-    (woven (λ k. bit k (getD side j 0)) (λ k. bit k (getD side (24 + j) 0)) (λ k. bit k (getD side (48 + j) 0))
-    (λ k. bit k (getD side (72 + j) 0)) (λ k. bit k (getD side (96 + j) 0)) (λ k. bit k (getD side (120 + j) 0)))
-    ∙ sym (flags-sixteen side j hj)
+  -- those from frame f of eight on
+  abbrev onward : ℕ → ℕ
+  onward f = flagsFrom side (16 * j + 2 * f) (16 - 2 * f)
+
+  step : (f : ℕ) → f < 8 → onward f ≡ flagAt side 0 j f + 16 * flagAt side 1 j f + 256 * onward (f + 1)
+  unfolding flagsFrom
+  step f h =
+      let n : 16 - 2 * f ≡ suc (suc (16 - 2 * (f + 1))) = omega arith in
+      let a : 16 * j + 2 * f ≡ 16 * j + 2 * f + 0 = omega arith in
+      let b : suc (16 * j + 2 * f) ≡ 16 * j + 2 * f + 1 = omega arith in
+      let c : suc (suc (16 * j + 2 * f)) ≡ 16 * j + 2 * (f + 1) = omega arith in
+      let p : flags side (16 * j + 2 * f) ≡ flagAt side 0 j f = ap (flags side) a ∙ flags-at 0 f (omega arith) h in
+      let q : flags side (suc (16 * j + 2 * f)) ≡ flagAt side 1 j f = ap (flags side) b ∙ flags-at 1 f (omega arith) h in
+      rw (n, p, q, c) (nested (flagAt side 0 j f) (flagAt side 1 j f) (onward (f + 1)))
+
+  eight-apart : (ch : ℕ) → eightFlags side ch j ≡ apart (flagAt side ch j)
+  unfolding eightFlags spread
+  eight-apart ch = woven (λ k. bit k (octetIn side ch 0 j)) (λ k. bit k (octetIn side ch 1 j)) (λ k. bit k (octetIn side ch 2 j))
+
+  pub sixteen-laid : (a b : ℕ) → a ≡ eightFlags side 0 j → b ≡ eightFlags side 1 j → a + b * 16 ≡ flagsFrom side (16 * j) 16
+  unfolding flagsFrom
+  sixteen-laid a b ea eb =
+      let z : 16 * j + 2 * 0 ≡ 16 * j = omega arith in
+      ap₂ (λ (x y : ℕ). x + y * 16) (ea ∙ eight-apart 0) (eb ∙ eight-apart 1)
+      ∙ chained (flagAt side 0 j) (flagAt side 1 j) onward step refl ∙ ap (λ (i : ℕ). flagsFrom side i 16) z
+
+-- where V, U and C of a channel stand
+pub octet-at : (side : List ℕ) (ch k j : ℕ) → getD side (columnLength * columns * ch + j + columnLength * k) 0 ≡ octetIn side ch k j
+unfolding octetIn
+octet-at side ch k j =
+    let e : columnLength * columns * ch + j + columnLength * k ≡ columnLength * (columns * ch + k) + j = omega arith in
+    ap (λ (i : ℕ). getD side i 0) e
+
+pub eight-laid : (side : List ℕ) (ch j v u c : ℕ) → v ≡ spread (octetIn side ch 0 j) → u ≡ spread (octetIn side ch 1 j)
+    → c ≡ spread (octetIn side ch 2 j) → v + u * 2 + c * 4 ≡ eightFlags side ch j
+unfolding eightFlags
+eight-laid side ch j v u c ev eu ec = rw (ev, eu, ec)
 
 -- ---- one after the other
 
-three : (t v u c : ℕ) → v < 2 → u < 2 → c < 2 → t ≡ v + u * 2 + c * 4 → (t % 2 ≡ v) × (t / 2 % 2 ≡ u) × (t / 4 % 2 ≡ c)
+three : (t v u c : ℕ) → v < 2 → u < 2 → c < 2 → t ≡ v + u * 2 + c * 4 → (bit 0 t ≡ v) × (bit 1 t ≡ u) × (bit 2 t ≡ c)
 three t v u c hv hu hc e = (omega arith, omega arith, omega arith)
 
-halves : (x : ℕ) → (x / 33554432 ≡ x / 16777216 / 2) × (x / 67108864 ≡ x / 16777216 / 4)
-halves x = (omega arith, omega arith)
-
-above : (x k t : ℕ) → k < 16777216 → x ≡ k + t * 16777216 → (x % 16777216 ≡ k) × (x / 16777216 ≡ t)
-above x k t h e = (omega arith, omega arith)
-
-fields : (x k v u c : ℕ) → k < 16777216 → v < 2 → u < 2 → c < 2 → x ≡ k + (v + u * 2 + c * 4) * 16777216
-    → (x % 16777216 ≡ k) × (x / 16777216 % 2 ≡ v) × (x / 33554432 % 2 ≡ u) × (x / 67108864 % 2 ≡ c)
-fields x k v u c h hv hu hc e =
-    let a = above x k (v + u * 2 + c * 4) h e in
-    let t = three (x / 16777216) v u c hv hu hc (a .1) in
-    let q = halves x in
-    (a .0, t .0, ap (λ (n : ℕ). n % 2) (q .0) ∙ t .1, ap (λ (n : ℕ). n % 2) (q .1) ∙ t .2)
-
 module _ (side : List ℕ) (i : ℕ) where
-  flag-lt : (field : ℕ) → sideAt side field i < 2
-  unfolding sideAt
-  flag-lt field = side-lt side (3 * (i % 2) + field) (i / 2)
-
   pub flags-lt : flags side i < 8
   unfolding flags
-  flags-lt = omega (arith, flag-lt 0, flag-lt 1, flag-lt 2)
+  flags-lt = omega (arith, side-digit side 0 i, side-digit side 1 i, side-digit side 2 i)
 
   -- with a sample's bits they are the body
-  pub body-with : (samples : List ℤ) (x : ℕ) → inRange 24 (getD samples i (pos 0)) ≡ true
-      → x ≡ codeOf 24 (getD samples i (pos 0)) + flags side i * 16777216 → bodyWith x ≡ bodyAt samples side i
+  pub body-with : (samples : List ℤ) (f : ℕ) → inRange 24 (getD samples i (pos 0)) ≡ true → f ≡ flags side i
+      → bodyWith (codeOf 24 (getD samples i (pos 0))) f ≡ bodyAt samples side i
   unfolding bodyWith flags
-  body-with samples x r e =
-      let z = getD samples i (pos 0) in
-      let h = code-lt 24 (omega arith) z r in
-      let f = fields x (codeOf 24 z) (sideAt side 0 i) (sideAt side 1 i) (sideAt side 2 i) h (flag-lt 0) (flag-lt 1) (flag-lt 2) e in
-      rw (f .0, f .1, f .2, f .3)
-      (sym (body-told samples side i refl refl refl refl (written-in z (sideAt side 0 i) (sideAt side 1 i) (sideAt side 2 i) r (flag-lt 0) (flag-lt 1) (flag-lt 2))))
+  body-with samples f r e =
+      let d = three f (sideAt side 0 i) (sideAt side 1 i) (sideAt side 2 i) (side-digit side 0 i) (side-digit side 1 i) (side-digit side 2 i) e in
+      rw (d .0, d .1, d .2) (sym (body-in samples side i r))
+
+-- slots 4 to 30 of such a body, and their parity in slot 31
+pub laid-with : (k f low : ℕ) → f < 8 → low ≡ k * 16 + f * 2 ^ 28 → low + parityOf low * 2 ^ 31 ≡ bodyWith k f
+unfolding bodyWith
+laid-with k f low h e =
+    let d : low ≡ k * 2 ^ 4 + bit 0 f * 2 ^ 28 + bit 1 f * 2 ^ 29 + bit 2 f * 2 ^ 30 = omega arith in
+    ap (λ (n : ℕ). n + parityOf n * 2 ^ 31) d ∙ sym (body-laid k (bit 0 f) (bit 1 f) (bit 2 f))
 
 -- the flags of a frame's two subframes, and those after them
 pub flags-frame : (side : List ℕ) (i n all : ℕ) → all ≡ flagsFrom side i (suc (suc n))

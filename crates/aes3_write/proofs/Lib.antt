@@ -2,5 +2,5 @@ pub mod EightTable
 pub mod Writing
 pub mod LineWriting
 pub mod BlockWriting
-pub mod Bodies
 pub mod Flags
+pub mod Residue

@@ -6,21 +6,15 @@ use Prim.Native.Nat.{ℕ, suc, _+_, _≤_, _<_}
 use native.Mathlib.Omega.{arith}
 use native.Mathlib.Numerals.{add-one}
 use lib.ListN.{length, take, drop, getD, length-append, length-drop, drop-of-length-le}
-use lib.Seq.{drop-cons, take-at, drop-at}
+use lib.Seq.{take-at, drop-at}
 use Rattle.bits.specs.Row.{big}
 use Rattle.bits.specs.Pack.{octets}
 use Rattle.bits.proofs.Packing.{length-pack}
 use Rattle.bits.proofs.Filling.{filled-part, filled-all}
 use Rattle.subframe.specs.Body.{Proper}
-use Rattle.aes3_code.specs.Subframe.{subframe}
-use Rattle.aes3_code.specs.Line.{lineFrom}
-use Rattle.aes3_code.proofs.LineLaws.{level-returns}
-
--- a proper body leaves the level as it was
-next-subframe : (bodies : List ℕ) (i b : ℕ) (l : Bool) → i < length bodies → b ≡ getD bodies i 0 → Proper b
-    → lineFrom i l (drop i bodies) ≡ octets 8 (subframe i l b) ++ lineFrom (suc i) l (drop (suc i) bodies)
-unfolding lineFrom
-next-subframe bodies i b l h e p = rw (drop-cons bodies i 0 h, ← e, level-returns i l b p)
+use Rattle.aes3_line.specs.Subframe.{subframe}
+use Rattle.aes3_line.specs.Line.{lineFrom}
+use Rattle.aes3_line.proofs.Turns.{next-written, none-written}
 
 -- two halves of sixteen octets, laid one after the other
 pub halves-laid : (part o p : List ℕ) → length part ≡ 16 → length o ≡ 8
@@ -35,8 +29,8 @@ module _ (bodies o : List ℕ) (i a b : ℕ) (l : Bool) (h : i + 1 < length bodi
   next : lineFrom i l (drop i bodies) ≡ o ++ lineFrom (i + 2) l (drop (i + 2) bodies)
   next =
       let s : i + 2 ≡ suc (suc i) = omega arith in
-      next-subframe bodies i a l (omega arith) ea pa
-      ∙ ap (λ (r : List ℕ). octets 8 (subframe i l a) ++ r) (next-subframe bodies (suc i) b l (omega arith) (rw add-one at eb) pb)
+      next-written bodies i a l (omega arith) ea pa
+      ∙ ap (λ (r : List ℕ). octets 8 (subframe i l a) ++ r) (next-written bodies (suc i) b l (omega arith) (rw add-one at eb) pb)
       ∙ rw (s, e) (sym (append-assoc (octets 8 (subframe i l a)) (octets 8 (subframe (suc i) l b)) (lineFrom (suc (suc i)) l (drop (suc (suc i)) bodies))))
 
   frame-long : length o ≡ 16
@@ -50,5 +44,4 @@ module _ (bodies o : List ℕ) (i a b : ℕ) (l : Bool) (h : i + 1 < length bodi
 
 pub all-written : (line bodies whole : List ℕ) (i n : ℕ) (l : Bool) → length bodies ≤ i → length line ≤ n
     → take n line ++ lineFrom i l (drop i bodies) ≡ whole → line ≡ whole
-unfolding lineFrom
-all-written line bodies whole i n l h g q = filled-all line whole n g (rw (drop-of-length-le bodies {i = i} h) at q)
+all-written line bodies whole i n l h g q = filled-all line whole n g (rw (none-written bodies i l h) at q)

@@ -1,27 +1,27 @@
 -- Clauses that only inner functions need. Assumes nothing.
-use Prim.Native.Nat.{ℕ, zero, suc, _+_, _*_, _%_, _^_}
+use Prim.Native.Nat.{ℕ, zero, suc, _+_, _*_, _^_}
 use mathlib.Core.Bool.{Bool, false}
 use mathlib.Core.List.{List, _++_}
+use lib.ListN.{getD}
 use Rattle.bits.specs.Row.{Row, bit, bits, bigBits, big}
 use Rattle.bits.specs.Listed.{listed}
 use Rattle.line.specs.Preamble.{afterLevel}
-use Rattle.line.specs.Biphase.{slots}
-use Rattle.subframe.specs.Body.{bodyOf}
-use Rattle.subframe.specs.Body.{slots as slotsOf}
-use Rattle.side.specs.Side.{validity, user, status}
+use Rattle.line.specs.Biphase.{biphase}
+use Rattle.subframe.specs.Body.{slots, bodyOf}
+use Rattle.block.specs.Side.{validity, user, status, columns, columnLength}
 use Rattle.block.specs.Block.{sideAt}
 
 -- the sixteen symbols of the eight bits of each octet, lowest first, after level 0
 unfoldable pub eightTable : List ℕ
-eightTable = listed 0 256 (λ d. big (slots false (bits 8 d)))
+eightTable = listed 0 256 (λ d. big (biphase false (bits 8 d)))
 
 -- the 64 symbols of a body behind the octet m of a preamble, after a level
 unfoldable pub opened : ℕ → Bool → ℕ → Row
-opened m l body = afterLevel l (bigBits 8 m ++ slots false (slotsOf body))
+opened m l body = afterLevel l (bigBits 8 m ++ biphase false (slots body))
 
--- the body of 27 bits: a sample's 24, then V, U and C
-unfoldable pub bodyWith : ℕ → ℕ
-bodyWith x = bodyOf (x % 2 ^ 24) (bit 24 x) (bit 25 x) (bit 26 x)
+-- the body of a sample's 24 bits, and of V, U and C at weights 1, 2 and 4
+unfoldable pub bodyWith : ℕ → ℕ → ℕ
+bodyWith code flags = bodyOf code (bit 0 flags) (bit 1 flags) (bit 2 flags)
 
 -- V, U and C of subframe i
 unfoldable pub flags : List ℕ → ℕ → ℕ
@@ -39,3 +39,13 @@ spread o = bit 0 o + bit 1 o * 2 ^ 8 + bit 2 o * 2 ^ 16 + bit 3 o * 2 ^ 24 + bit
 -- the same of each number below 16
 unfoldable pub spreadTable : List ℕ
 spreadTable = listed 0 16 (λ x. bit 0 x + bit 1 x * 2 ^ 8 + bit 2 x * 2 ^ 16 + bit 3 x * 2 ^ 24)
+
+-- octet j of a column of a channel
+unfoldable pub octetIn : List ℕ → ℕ → ℕ → ℕ → ℕ
+octetIn side channel column j = getD side (columnLength * (columns * channel + column) + j) 0
+
+-- V, U and C of eight frames of a channel from frame 8 j on, at weights 1, 2 and 4, and each frame at 2^8 times the one
+-- before
+unfoldable pub eightFlags : List ℕ → ℕ → ℕ → ℕ
+eightFlags side channel j =
+    spread (octetIn side channel validity j) + spread (octetIn side channel user j) * 2 + spread (octetIn side channel status j) * 4

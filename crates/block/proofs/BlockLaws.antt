@@ -1,11 +1,12 @@
--- A block there and back: samples and side table from the bodies that carry them, and bodies from what was read of them.
--- Assumes nothing.
+-- A block there and back: samples and side table from the bodies that carry them, and bodies from what was read of
+-- them. Assumes nothing.
 use mathlib.Core.Path.{_≡_, refl, sym, ap, ap₂, _∙_, subst}
 use mathlib.Core.Bool.{true, false}
 use mathlib.Core.Logic.{⊎-elim}
 use mathlib.Core.List.{List}
 use Prim.Native.Nat.{ℕ, zero, suc, _+_, _*_, _/_, _%_, _^_, _≤_, _<_}
 use native.Mathlib.Omega.{arith}
+use borrow.Author.Tests.{eq-eqb}
 use lib.IntN.{ℤ, pos}
 use lib.ListN.{length, getD, List·getD-eq-default}
 use lib.Seq.{ext-getD}
@@ -15,13 +16,15 @@ use Rattle.bits.proofs.Tests.{order}
 use Rattle.bits.proofs.Digits.{digit-odd, odd-mod}
 use Rattle.bits.proofs.Lists.{length-listed, getD-listed, listed-all, length-joined, getD-joined}
 use Rattle.subframe.specs.Signed.{inRange, codeOf}
-use Rattle.subframe.specs.Body.{Proper, bodyOf, bodyWritten, bodyTold, sampleOf}
-use Rattle.side.specs.Side.{columns, sideLength, sideBit, columnIn, columnOf}
-use Rattle.subframe.specs.declared.BodyAnswer.{BodyAnswer}
-use Rattle.subframe.specs.declared.BodyAnswer.the-variants.{Body, Refused}
-use Rattle.subframe.proofs.BodyTrips.{written-in, written-proper, proper-zero, read-written, Accepted, accepted, write-fields}
-use Rattle.side.proofs.SideLaws.{side-lt, side-in, column-at, row-column, column-read, getD-columnIn, length-column}
-use Rattle.block.specs.Block.{sideAt, bodyAt, bodiesOf, samplesOf, fieldRow, sideOf}
+use Rattle.answer.specs.Answer.{Answer, Answer.accepted, Answer.refused, told, after}
+use Rattle.answer.specs.Demand.{_&_}
+use Rattle.answer.proofs.Chains.{passing}
+use Rattle.answer.proofs.Residues.{whole}
+use Rattle.subframe.specs.Body.{Proper, bodyOf, bodyWritten, sampleOf}
+use Rattle.block.specs.Side.{columns, columnBit, columnLength, sideLength, sideBit, columnIn, columnOf}
+use Rattle.subframe.proofs.BodyTrips.{written-in, written-proper, proper-zero, read-written, Reading, reading, write-fields}
+use Rattle.block.proofs.SideLaws.{column-lt, side-lt, side-in, column-at, row-column, written-back, getD-columnIn, length-column}
+use Rattle.block.specs.Block.{sideAt, bodyAt, bodiesOf, samplesOf, channelRow, sideOf, fillDemands, blockFilled}
 
 -- every sample is one of 24 bits
 abbrev pub InRange : List ℤ → Type 0
@@ -49,45 +52,53 @@ pub getD-samples : (b : List ℕ) (i : ℕ) → i < 384 → getD (samplesOf b) i
 unfolding samplesOf
 getD-samples b i h = getD-listed 384 (λ i. sampleOf (getD b i 0)) i (pos 0) h
 
--- the column k of what is read
-abbrev pub fieldColumn : List ℕ → ℕ → List ℕ
-fieldColumn b k = columnOf (fieldRow b (k / columns) (k % columns))
+-- the row and the octets of column k of what is read
+abbrev rowOf : List ℕ → ℕ → Row
+rowOf b k = channelRow (columnBit (k % columns)) b (k / columns)
+
+abbrev pub columnRead : List ℕ → ℕ → List ℕ
+columnRead b k = columnOf (rowOf b k)
 
 pub length-side : (b : List ℕ) → length (sideOf b) ≡ sideLength
 unfolding sideOf
-length-side b = length-joined 24 (fieldColumn b) (λ k. length-column (fieldRow b (k / columns) (k % columns))) 0 (2 * columns)
+length-side b = length-joined columnLength (columnRead b) (λ k. length-column (rowOf b k)) 0 (2 * columns)
 
-pub length-field : (b : List ℕ) (ch k : ℕ) → length (fieldRow b ch k) ≡ 192
-unfolding fieldRow
-length-field b ch k = length-listed 0 192 (λ f. odd (getD b (2 * f + ch) 0 / 2 ^ (28 + k)))
+module _ (holds : ℕ → ℕ) (b : List ℕ) (ch : ℕ) where
+  pub length-channel-row : length (channelRow holds b ch) ≡ 192
+  unfolding channelRow
+  length-channel-row = length-listed 0 192 (λ f. odd (holds (getD b (2 * f + ch) 0)))
 
-pub getD-field : (b : List ℕ) (ch k f : ℕ) → f < 192 → getD (fieldRow b ch k) f false ≡ odd (getD b (2 * f + ch) 0 / 2 ^ (28 + k))
-unfolding fieldRow
-getD-field b ch k f h = getD-listed 192 (λ f. odd (getD b (2 * f + ch) 0 / 2 ^ (28 + k))) f false h
+  pub getD-channel-row : (f : ℕ) → f < 192 → getD (channelRow holds b ch) f false ≡ odd (holds (getD b (2 * f + ch) 0))
+  unfolding channelRow
+  getD-channel-row f h = getD-listed 192 (λ f. odd (holds (getD b (2 * f + ch) 0))) f false h
 
-pub getD-side : (b : List ℕ) (k j : ℕ) → k < 2 * columns → j < 24 → getD (sideOf b) (24 * k + j) 0 ≡ getD (fieldColumn b k) j 0
+pub getD-side : (b : List ℕ) (k j : ℕ) → k < 2 * columns → j < columnLength
+    → getD (sideOf b) (columnLength * k + j) 0 ≡ getD (columnRead b k) j 0
 unfolding sideOf
 getD-side b k j hk hj =
-    let e : 24 * k + j ≡ k * 24 + j = omega arith in
-    rw e (getD-joined 24 (fieldColumn b) (λ i. length-column (fieldRow b (i / columns) (i % columns))) (2 * columns) k j 0 hk hj)
+    let e : columnLength * k + j ≡ k * columnLength + j = omega arith in
+    rw e (getD-joined columnLength (columnRead b) (λ i. length-column (rowOf b i)) (2 * columns) k j 0 hk hj)
 
 -- a bit of what is read
 pub side-of : (b : List ℕ) (k f : ℕ) → k < 2 * columns → f < 192
-    → sideBit (sideOf b) k f ≡ bit (28 + k % columns) (getD b (2 * f + k / columns) 0)
+    → sideBit (sideOf b) k f ≡ columnBit (k % columns) (getD b (2 * f + k / columns) 0)
 side-of b k f hk hf =
-    let r = fieldRow b (k / columns) (k % columns) in
+    let r = rowOf b k in
+    let holds = columnBit (k % columns) in
+    let body = getD b (2 * f + k / columns) 0 in
     side-in (sideOf b) k f hk hf
     ∙ ap (bit (f % 8)) (getD-side b k (f / 8) hk (omega arith))
     ∙ sym (column-at (columnOf r) f (omega (arith, length-column r)))
-    ∙ ap (λ (x : Row). digit (getD x f false)) (row-column r (length-field b (k / columns) (k % columns)))
-    ∙ ap digit (getD-field b (k / columns) (k % columns) f hf)
-    ∙ digit-odd (getD b (2 * f + k / columns) 0 / 2 ^ (28 + k % columns))
+    ∙ ap (λ (x : Row). digit (getD x f false)) (row-column r (length-channel-row holds b (k / columns)))
+    ∙ ap digit (getD-channel-row holds b (k / columns) f hf)
+    ∙ digit-odd (holds body)
+    ∙ omega (arith, column-lt (k % columns) body)
 
 -- ---- the bodies are proper, whatever the samples
 
-told-proper : (z : ℤ) (v u c : ℕ) (a : BodyAnswer) → Proper 0 → bodyWritten z v u c ≡ a → Proper (bodyTold a .2)
-told-proper z v u c (Body b) n e = written-proper z v u c b e
-told-proper z v u c (Refused m p) n e = n
+told-proper : (z : ℤ) (v u c : ℕ) (a : Answer ℕ) → Proper 0 → bodyWritten z v u c ≡ a → Proper (told 0 a .2)
+told-proper z v u c (accepted b) n e = written-proper z v u c b e
+told-proper z v u c (refused m p) n e = n
 
 pub proper : (s : List ℤ) (t : List ℕ) → Bodies (bodiesOf s t)
 unfolding bodyAt
@@ -101,60 +112,76 @@ proper s t i =
 
 -- ---- from samples and side table to bodies, and back
 
-side-digit : (t : List ℕ) (k i : ℕ) → sideAt t k i < 2
+pub side-digit : (t : List ℕ) (k i : ℕ) → sideAt t k i < 2
 unfolding sideAt
 side-digit t k i = side-lt t (columns * (i % 2) + k) (i / 2)
 
+-- the octet that a subframe's digit stands in
+pub side-octet : (t : List ℕ) (k i : ℕ) → k < columns → i < 384
+    → sideAt t k i ≡ bit (i / 2 % 8) (getD t (columnLength * (columns * (i % 2) + k) + i / 16) 0)
+unfolding sideAt
+side-octet t k i hk hi =
+    let c = columns * (i % 2) + k in
+    let e : i / 2 / 8 ≡ i / 16 = omega arith in
+    side-in t c (i / 2) (omega arith) (omega arith) ∙ ap (λ (j : ℕ). bit (i / 2 % 8) (getD t (columnLength * c + j) 0)) e
+
 -- body i, from what it is to carry
-pub body-told : (s : List ℤ) (t : List ℕ) (i : ℕ) {z : ℤ} {v u c : ℕ} {a : BodyAnswer} → getD s i (pos 0) ≡ z → sideAt t 0 i ≡ v
-    → sideAt t 1 i ≡ u → sideAt t 2 i ≡ c → bodyWritten z v u c ≡ a → bodyAt s t i ≡ bodyTold a .2
+pub body-told : (s : List ℤ) (t : List ℕ) (i : ℕ) {z : ℤ} {v u c : ℕ} {a : Answer ℕ} → getD s i (pos 0) ≡ z → sideAt t 0 i ≡ v
+    → sideAt t 1 i ≡ u → sideAt t 2 i ≡ c → bodyWritten z v u c ≡ a → bodyAt s t i ≡ told 0 a .2
 unfolding bodyAt
 body-told s t i {z} {v} {u} {c} ez ev eu ec e =
     let same : bodyWritten (getD s i (pos 0)) (sideAt t 0 i) (sideAt t 1 i) (sideAt t 2 i) ≡ bodyWritten z v u c = cc in
-    ap (λ (a : BodyAnswer). bodyTold a .2) (same ∙ e)
+    ap (λ (a : Answer ℕ). told 0 a .2) (same ∙ e)
+
+-- of a sample in range
+pub body-in : (s : List ℤ) (t : List ℕ) (i : ℕ) → inRange 24 (getD s i (pos 0)) ≡ true
+    → bodyAt s t i ≡ bodyOf (codeOf 24 (getD s i (pos 0))) (sideAt t 0 i) (sideAt t 1 i) (sideAt t 2 i)
+body-in s t i h =
+    body-told s t i refl refl refl refl
+    (written-in (getD s i (pos 0)) (sideAt t 0 i) (sideAt t 1 i) (sideAt t 2 i) h (side-digit t 0 i) (side-digit t 1 i) (side-digit t 2 i))
 
 module _ (s : List ℤ) (t : List ℕ) (ranges : InRange s) where
   -- body i carries sample i and its V, U and C
-  carries : (i : ℕ) → Accepted (bodyAt s t i) (getD s i (pos 0)) (sideAt t 0 i) (sideAt t 1 i) (sideAt t 2 i)
+  carries : (i : ℕ) → Reading (bodyAt s t i) (getD s i (pos 0), sideAt t 0 i, sideAt t 1 i, sideAt t 2 i)
   carries i =
       let z = getD s i (pos 0) in
       let e = written-in z (sideAt t 0 i) (sideAt t 1 i) (sideAt t 2 i) (ranges i) (side-digit t 0 i) (side-digit t 1 i) (side-digit t 2 i) in
       let b = bodyOf (codeOf 24 z) (sideAt t 0 i) (sideAt t 1 i) (sideAt t 2 i) in
-      subst (λ (x : ℕ). Accepted x z (sideAt t 0 i) (sideAt t 1 i) (sideAt t 2 i)) (sym (body-told s t i refl refl refl refl e))
-      (accepted b z (sideAt t 0 i) (sideAt t 1 i) (sideAt t 2 i) (read-written z (sideAt t 0 i) (sideAt t 1 i) (sideAt t 2 i) b e))
+      subst (λ (x : ℕ). Reading x (z, sideAt t 0 i, sideAt t 1 i, sideAt t 2 i)) (sym (body-in s t i (ranges i)))
+      (reading b (z, sideAt t 0 i, sideAt t 1 i, sideAt t 2 i) (read-written z (sideAt t 0 i) (sideAt t 1 i) (sideAt t 2 i) b e))
 
-  carried : (i field : ℕ) → field < columns → bit (28 + field) (bodyAt s t i) ≡ sideAt t field i
-  carried i zero h = carries i .V-bit
-  carried i (suc zero) h = carries i .U-bit
-  carried i (suc (suc zero)) h = carries i .C-bit
+  carried : (i k : ℕ) → k < columns → columnBit k (bodyAt s t i) ≡ sideAt t k i
+  unfolding columnBit
+  carried i zero h = ap (λ f. f .1) (carries i .fields)
+  carried i (suc zero) h = ap (λ f. f .2) (carries i .fields)
+  carried i (suc (suc zero)) h = ap (λ f. f .3) (carries i .fields)
   carried i (suc (suc (suc n))) h = absurd (omega arith)
 
   pub samples-back : length s ≡ 384 → samplesOf (bodiesOf s t) ≡ s
   unfolding samplesOf
   samples-back n =
       listed-all 384 (λ i. sampleOf (getD (bodiesOf s t) i 0)) s (pos 0) n
-      (λ i h. ap sampleOf (getD-bodies s t i h) ∙ carries i .sample)
+      (λ i h. ap sampleOf (getD-bodies s t i h) ∙ ap (λ f. f .0) (carries i .fields))
 
   -- the bit of a frame in a column
   column-bit : (k f : ℕ) → k < 2 * columns → f < 192
-      → odd (getD (bodiesOf s t) (2 * f + k / columns) 0 / 2 ^ (28 + k % columns)) ≡ odd (sideBit t k f)
+      → odd (columnBit (k % columns) (getD (bodiesOf s t) (2 * f + k / columns) 0)) ≡ odd (sideBit t k f)
   unfolding sideAt
   column-bit k f hk hf =
       let i = 2 * f + k / columns in
       let hi : i < 384 = omega arith in
       let p : columns * (i % 2) + k % columns ≡ k = omega arith in
       let q : i / 2 ≡ f = omega arith in
-      sym (odd-mod (getD (bodiesOf s t) i 0 / 2 ^ (28 + k % columns)))
-      ∙ ap (λ (b : ℕ). odd (bit (28 + k % columns) b)) (getD-bodies s t i hi)
+      ap (λ (b : ℕ). odd (columnBit (k % columns) b)) (getD-bodies s t i hi)
       ∙ ap odd (carried i (k % columns) (omega arith) ∙ ap₂ (sideBit t) p q)
 
-  column-back : length t ≡ sideLength → Below 256 t → (k : ℕ) → k < 2 * columns → fieldColumn (bodiesOf s t) k ≡ columnIn t k
-  unfolding fieldRow
+  column-back : length t ≡ sideLength → Below 256 t → (k : ℕ) → k < 2 * columns → columnRead (bodiesOf s t) k ≡ columnIn t k
   column-back n octets k hk =
-      ap columnOf (listed-all 192 (λ f. odd (getD (bodiesOf s t) (2 * f + k / columns) 0 / 2 ^ (28 + k % columns)))
-      (listed 0 192 (λ f. odd (sideBit t k f))) false (length-listed 0 192 (λ f. odd (sideBit t k f)))
-      (λ f hf. column-bit k f hk hf ∙ sym (getD-listed 192 (λ f. odd (sideBit t k f)) f false hf)))
-      ∙ column-read t n k hk octets
+      let holds = columnBit (k % columns) in
+      ap columnOf (sym (listed-all 192 (λ f. odd (sideBit t k f)) (rowOf (bodiesOf s t) k) false
+      (length-channel-row holds (bodiesOf s t) (k / columns))
+      (λ f hf. sym (getD-channel-row holds (bodiesOf s t) (k / columns) f hf ∙ column-bit k f hk hf))))
+      ∙ written-back t n k hk octets
 
   pub side-back : length t ≡ sideLength → Below 256 t → sideOf (bodiesOf s t) ≡ t
   side-back n octets =
@@ -162,31 +189,47 @@ module _ (s : List ℤ) (t : List ℕ) (ranges : InRange s) where
     where
       same : (i : ℕ) → i < sideLength → getD (sideOf (bodiesOf s t)) i 0 ≡ getD t i 0
       same i h =
-          let e : i ≡ 24 * (i / 24) + i % 24 = omega arith in
-          let hk : i / 24 < 2 * columns = omega arith in
-          let hj : i % 24 < 24 = omega arith in
+          let e : i ≡ columnLength * (i / columnLength) + i % columnLength = omega arith in
+          let hk : i / columnLength < 2 * columns = omega arith in
+          let hj : i % columnLength < columnLength = omega arith in
           ap (λ (m : ℕ). getD (sideOf (bodiesOf s t)) m 0) e
-          ∙ getD-side (bodiesOf s t) (i / 24) (i % 24) hk hj
-          ∙ ap (λ (l : List ℕ). getD l (i % 24) 0) (column-back n octets (i / 24) hk)
-          ∙ getD-columnIn t (i / 24) (i % 24) hj
+          ∙ getD-side (bodiesOf s t) (i / columnLength) (i % columnLength) hk hj
+          ∙ ap (λ (l : List ℕ). getD l (i % columnLength) 0) (column-back n octets (i / columnLength) hk)
+          ∙ getD-columnIn t (i / columnLength) (i % columnLength) hj
           ∙ ap (λ (m : ℕ). getD t m 0) (sym e)
 
 -- ---- from bodies to samples and side table, and back
 
 module _ (b : List ℕ) where
-  side-read : (i field : ℕ) → i < 384 → field < columns → sideAt (sideOf b) field i ≡ bit (28 + field) (getD b i 0)
+  side-read : (i k : ℕ) → i < 384 → k < columns → sideAt (sideOf b) k i ≡ columnBit k (getD b i 0)
   unfolding sideAt
-  side-read i field h hf =
-      let k = columns * (i % 2) + field in
-      let p : k % columns ≡ field = omega arith in
-      let q : 2 * (i / 2) + k / columns ≡ i = omega arith in
-      side-of b k (i / 2) (omega arith) (omega arith) ∙ ap₂ (λ (m j : ℕ). bit (28 + m) (getD b j 0)) p q
+  side-read i k h hf =
+      let c = columns * (i % 2) + k in
+      let p : c % columns ≡ k = omega arith in
+      let q : 2 * (i / 2) + c / columns ≡ i = omega arith in
+      side-of b c (i / 2) (omega arith) (omega arith) ∙ ap₂ (λ (m j : ℕ). columnBit m (getD b j 0)) p q
 
   pub bodies-back : length b ≡ 384 → Bodies b → bodiesOf (samplesOf b) (sideOf b) ≡ b
-  unfolding bodiesOf
+  unfolding bodiesOf columnBit
   bodies-back n all = listed-all 384 (bodyAt (samplesOf b) (sideOf b)) b 0 n (λ i h. same i h)
     where
       same : (i : ℕ) → i < 384 → bodyAt (samplesOf b) (sideOf b) i ≡ getD b i 0
       same i h =
           body-told (samplesOf b) (sideOf b) i (getD-samples b i h) (side-read i 0 h (omega arith)) (side-read i 1 h (omega arith))
           (side-read i 2 h (omega arith)) (write-fields (getD b i 0) (all i))
+
+-- ---- filling
+
+-- bodies and buffers of the right lengths are filled, all of them
+pub filling : (bodies : List ℕ) (samples : List ℤ) (side : List ℕ) → length bodies ≡ 384 → length samples ≡ 384 → length side ≡ sideLength
+    → (blockFilled bodies (length samples) (length side) ≡ accepted bodies)
+    × (after samplesOf (blockFilled bodies (length samples) (length side)) samples ≡ samplesOf bodies)
+    × (after sideOf (blockFilled bodies (length samples) (length side)) side ≡ sideOf bodies)
+unfolding blockFilled
+filling bodies samples side nb ns nt =
+    let e : blockFilled bodies (length samples) (length side) ≡ accepted bodies =
+    passing (accepted bodies) (fillDemands bodies (length samples) (length side)) (eq-eqb _ 384 nb & eq-eqb _ 384 ns & eq-eqb _ sideLength nt & tt) in (
+      e,
+      rw e (whole samplesOf bodies samples (length-samples bodies ∙ sym ns)),
+      rw e (whole sideOf bodies side (length-side bodies ∙ sym nt)),
+    )

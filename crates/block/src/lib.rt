@@ -1,54 +1,40 @@
-// A block of 384 samples and its side table: its bodies, and back.
+// A block: 384 samples and a side table of V, U and C. Samples and side table from bodies, and what a writer checks of
+// them.
 ghost use mathlib.Core.Path.{_≡_};
+ghost use mathlib.Core.Bool.{not};
 ghost use Prim.Native.Nat.{_*_, _<_};
-ghost use lib.ListN.{length};
-ghost use Rattle.side.specs.Side.{columns, sideLength};
-ghost use Rattle.block.specs.Block.{sideAt, bodyGiven, samplesOf, sideOf, fillNumber, samplesFilled, sideFilled};
-ghost use Rattle.block.specs.Inner.{threeBits, apartTable, threeOctets, channelSide};
+ghost use lib.ListN.{length, getD};
+ghost use Rattle.bits.specs.Pick.{first};
+ghost use Rattle.bits.specs.Row.{digit, count};
+ghost use Rattle.bits.specs.Listed.{listed};
+ghost use Rattle.answer.specs.Answer.{verdict, after};
+ghost use Rattle.answer.specs.Said.{verdictSaid};
+ghost use Rattle.subframe.specs.Signed.{inRange};
+ghost use Rattle.block.specs.Side.{columnBits, columns, columnLength, sideLength};
+ghost use Rattle.block.specs.Block.{samplesOf, sideOf, blockFilled};
+ghost use Rattle.block.specs.Check.{statusOf, statusRight, outside, consumer, wrong, someValid, unmarked, statusChecked, checked};
+ghost use Rattle.block.specs.Inner.{digitsOf, apartTable, gathered, laid, channelSide};
 
 mod tables;
 
-use side::C;
-use side::COLUMNS;
-use side::SIDE;
-use side::U;
-use side::V;
-use subframe::BodyAnswer;
+use answer::Verdict;
 use tables::APART;
 
-// ---- from samples and side table to bodies
+// The columns of a channel in the side table, and how many they are.
+pub const V: usize = 0;
 
-// V, U or C of subframe i.
-fn side_at(side: &[u8], field: usize, i: usize) -> u32
-    requires { ⌜ (length (now side) ≡ sideLength) × (field < columns) × (i < 384) ⌝ }
-    ensures { λ r. ⌜ r ≡ sideAt (now (side .entry)) field i ⌝ }
-{
-    let at = 24 * (COLUMNS * (i % 2) + field) + i / 16;
-    ((side[at] >> (i / 2 % 8)) % 2) as u32
-}
+pub const U: usize = 1;
 
-// Body i of a block; 0 where a length is not that of a block, or where there is no such subframe.
-pub fn body_at(samples: &[i32], side: &[u8], i: usize) -> u32
-    ensures { λ r. ⌜ r ≡ bodyGiven (now (samples .entry)) (now (side .entry)) i ⌝ }
-{
-    if samples.len() != 384 {
-        return 0;
-    }
-    if side.len() != SIDE {
-        return 0;
-    }
-    if 384 <= i {
-        return 0;
-    }
-    let x = samples[i];
-    let v = side_at(side, V, i);
-    let u = side_at(side, U, i);
-    let c = side_at(side, C, i);
-    let BodyAnswer::Body(b) = subframe::write_body(x, v, u, c) else {
-        return 0;
-    };
-    b
-}
+pub const C: usize = 2;
+
+pub const COLUMNS: usize = 3;
+
+// How many octets a column has, those of a channel, and the table.
+pub const COLUMN: usize = 24;
+
+pub const CHANNEL: usize = COLUMN * COLUMNS;
+
+pub const SIDE: usize = 2 * CHANNEL;
 
 // ---- from bodies to samples and side table
 
@@ -65,40 +51,52 @@ fn fill_samples(bodies: &[u32], samples: &mut [i32])
     }
 }
 
-// V, U and C of slots 28 to 31, at weights 1, 2^8 and 2^16.
-fn apart(table: &[u32], last: u32) -> u32
-    requires { ⌜ (now table ≡ apartTable) × (last < 16) ⌝ }
-    ensures { λ r. ⌜ r ≡ threeBits last ⌝ }
+// What the columns hold of a body, column k at weight 256^k: slots 28 to 30 by a table, at once.
+fn apart(table: &[u32], body: u32) -> u32
+    requires { ⌜ now table ≡ apartTable ⌝ }
+    ensures { λ r. ⌜ r ≡ digitsOf columnBits body ⌝ }
 {
-    table[last as usize]
+    table[(body / 268435456) as usize]
 }
 
-// Octet j of each of V, U and C of a channel, at weights 1, 2^8 and 2^16: eight of its bodies, the last first.
-fn three_octets(table: &[u32], bodies: &[u32], channel: usize, j: usize) -> u32
-    requires { ⌜ (now table ≡ apartTable) × (length (now bodies) ≡ 384) × (channel < 2) × (j < 24) ⌝ }
-    ensures { λ r. ⌜ r ≡ threeOctets (now (bodies .entry)) channel (j * 8) 8 ⌝ }
+// Octet j of each column of a channel, column k at weight 256^k: eight of its bodies, the last first.
+fn channel_octets(table: &[u32], bodies: &[u32], channel: usize, j: usize) -> u32
+    requires { ⌜ (now table ≡ apartTable) × (length (now bodies) ≡ 384) × (channel < 2) × (j < columnLength) ⌝ }
+    ensures { λ r. ⌜ r ≡ gathered columnBits (now (bodies .entry)) channel (j * 8) 8 ⌝ }
 {
     let mut n: u32 = 0;
     let mut m = 0;
     while m < 8 {
         let b = bodies[2 * (j * 8 + 7 - m) + channel];
-        n = n * 2 + apart(table, b / 268435456);
+        n = n * 2 + apart(table, b);
         m += 1;
     }
     n
 }
 
-// V, U and C of a channel.
+// The octets of a number, the lowest first, as octet j of each column.
+fn lay_octets(octets: u32, j: usize, part: &mut [u8])
+    requires { ⌜ (length (now part) ≡ columnLength * columns) × (j < columnLength) ⌝ }
+    ensures { λ _. ⌜ now (part .exit) ≡ laid 0 columns j octets (now (part .entry)) ⌝ }
+{
+    let mut left = octets;
+    let mut k = 0;
+    while k < COLUMNS {
+        part[COLUMN * k + j] = (left % 256) as u8;
+        left = left / 256;
+        k += 1;
+    }
+}
+
+// The columns of a channel.
 fn fill_channel(table: &[u32], bodies: &[u32], channel: usize, part: &mut [u8])
-    requires { ⌜ (now table ≡ apartTable) × (length (now bodies) ≡ 384) × (channel < 2) × (length (now part) ≡ 24 * columns) ⌝ }
+    requires { ⌜ (now table ≡ apartTable) × (length (now bodies) ≡ 384) × (channel < 2) × (length (now part) ≡ columnLength * columns) ⌝ }
     ensures { λ r. ⌜ now (part .exit) ≡ channelSide (now (bodies .entry)) channel ⌝ }
 {
     let mut j = 0;
-    while j < 24 {
-        let n = three_octets(table, bodies, channel, j);
-        part[j] = (n % 256) as u8;
-        part[24 + j] = (n / 256 % 256) as u8;
-        part[48 + j] = (n / 65536) as u8;
+    while j < COLUMN {
+        let n = channel_octets(table, bodies, channel, j);
+        lay_octets(n, j, part);
         j += 1;
     }
 }
@@ -110,30 +108,227 @@ fn fill_side(table: &[u32], bodies: &[u32], side: &mut [u8])
 {
     let mut k = 0;
     while k < 2 {
-        let a = k * 72;
-        let e = a + 72;
+        let a = k * CHANNEL;
+        let e = a + CHANNEL;
         fill_channel(table, bodies, k, &mut side[a..e]);
         k += 1;
     }
 }
 
-// The samples and the side table of 384 bodies, whatever stood in the buffers; gives 0, or refusal 1 where a length is not as stated.
-pub fn fill_block(bodies: &[u32], samples: &mut [i32], side: &mut [u8]) -> u32
-    ensures { λ r. ⌜ r ≡ fillNumber (now (bodies .entry)) (length (now (samples .entry))) (length (now (side .entry))) ⌝ }
-    ensures { λ r. ⌜ now (samples .exit) ≡ samplesFilled (now (bodies .entry)) (now (samples .entry)) (length (now (side .entry))) ⌝ }
-    ensures { λ r. ⌜ now (side .exit) ≡ sideFilled (now (bodies .entry)) (length (now (samples .entry))) (now (side .entry)) ⌝ }
+// The samples and the side table of 384 bodies, whatever stood in the buffers: refusal 1 where a length is not as
+// stated.
+pub fn fill_block(bodies: &[u32], samples: &mut [i32], side: &mut [u8]) -> Verdict
+    ensures { λ r. ⌜ verdictSaid r ≡ verdict (blockFilled (now (bodies .entry)) (length (now (samples .entry))) (length (now (side .entry)))) ⌝ }
+    ensures { λ _. ⌜ now (samples .exit) ≡ after samplesOf (blockFilled (now (bodies .entry)) (length (now (samples .entry))) (length (now (side .entry)))) (now (samples .entry)) ⌝ }
+    ensures { λ _. ⌜ now (side .exit) ≡ after sideOf (blockFilled (now (bodies .entry)) (length (now (samples .entry))) (length (now (side .entry)))) (now (side .entry)) ⌝ }
 {
     if bodies.len() != 384 {
-        return 1;
+        return Verdict::Refused {
+            number: 1,
+            place: 0,
+        };
     }
     if samples.len() != 384 {
-        return 1;
+        return Verdict::Refused {
+            number: 1,
+            place: 0,
+        };
     }
     if side.len() != SIDE {
-        return 1;
+        return Verdict::Refused {
+            number: 1,
+            place: 0,
+        };
     }
     fill_samples(bodies, samples);
     let table = APART;
     fill_side(&table, bodies, side);
-    0
+    Verdict::Accepted
+}
+
+// ---- what a writer checks
+
+// Whether the CRCC of a channel's status is right.
+pub fn status_right(side: &[u8], channel: usize) -> bool
+    ensures { λ r. ⌜ r ≡ statusRight (now (side .entry)) channel ⌝ }
+{
+    if side.len() != SIDE {
+        return false;
+    }
+    if 2 <= channel {
+        return false;
+    }
+    let a = COLUMN * (COLUMNS * channel + C);
+    let e = a + COLUMN;
+    codes::crcc_right(&side[a..e])
+}
+
+// 1 for a sample that is out of range, else 0.
+fn out_of_range(sample: i32) -> u32
+    ensures { λ r. ⌜ r ≡ digit (not (inRange 24 sample)) ⌝ }
+{
+    if subframe::in_range(sample) {
+        return 0;
+    }
+    1
+}
+
+// How many samples are out of range. Counting all needs no branch on a sample, and is quicker than a search that finds
+// none.
+fn outside_count(samples: &[i32]) -> u32
+    requires { ⌜ length (now samples) ≡ 384 ⌝ }
+    ensures { λ r. ⌜ r ≡ count (listed 0 384 (outside (now (samples .entry)))) ⌝ }
+{
+    let mut n: u32 = 0;
+    let mut i: usize = 0;
+    while i < 384 {
+        let x = samples[i];
+        n += out_of_range(x);
+        i += 1;
+    }
+    n
+}
+
+// The first sample that is out of range, or 384.
+fn first_outside(samples: &[i32]) -> usize
+    requires { ⌜ length (now samples) ≡ 384 ⌝ }
+    ensures { λ r. ⌜ r ≡ first (outside (now (samples .entry))) 0 384 (λ i. i) 384 ⌝ }
+{
+    if outside_count(samples) == 0 {
+        return 384;
+    }
+    let mut i: usize = 0;
+    while i < 384 {
+        let x = samples[i];
+        if subframe::in_range(x) {
+            i += 1;
+        } else {
+            return i;
+        }
+    }
+    i
+}
+
+// Byte 0 of a channel's status.
+fn status_byte(side: &[u8], channel: usize) -> u8
+    requires { ⌜ (length (now side) ≡ sideLength) × (channel < 2) ⌝ }
+    ensures { λ r. ⌜ r ≡ getD (statusOf channel (now (side .entry))) 0 0 ⌝ }
+{
+    side[COLUMN * (COLUMNS * channel + C)]
+}
+
+// Whether byte 0 bit 0 is 0.
+fn is_consumer(side: &[u8], channel: usize) -> bool
+    requires { ⌜ (length (now side) ≡ sideLength) × (channel < 2) ⌝ }
+    ensures { λ r. ⌜ r ≡ consumer (now (side .entry)) channel ⌝ }
+{
+    status_byte(side, channel) % 2 == 0
+}
+
+// Whether byte 23 is wrong.
+fn is_wrong(side: &[u8], channel: usize) -> bool
+    requires { ⌜ (length (now side) ≡ sideLength) × (channel < 2) ⌝ }
+    ensures { λ r. ⌜ r ≡ wrong (now (side .entry)) channel ⌝ }
+{
+    if status_right(side, channel) {
+        return false;
+    }
+    true
+}
+
+// Whether some V of the channel is 0: an octet of V is not all ones.
+fn has_valid(side: &[u8], channel: usize) -> bool
+    requires { ⌜ (length (now side) ≡ sideLength) × (channel < 2) ⌝ }
+    ensures { λ r. ⌜ r ≡ someValid (now (side .entry)) channel ⌝ }
+{
+    let at = COLUMN * (COLUMNS * channel + V);
+    let mut j = 0;
+    while j < COLUMN {
+        if side[at + j] != 255 {
+            return true;
+        }
+        j += 1;
+    }
+    false
+}
+
+// Whether byte 0 bit 1 is 1 and some V of the channel is 0.
+fn is_unmarked(side: &[u8], channel: usize) -> bool
+    requires { ⌜ (length (now side) ≡ sideLength) × (channel < 2) ⌝ }
+    ensures { λ r. ⌜ r ≡ unmarked (now (side .entry)) channel ⌝ }
+{
+    if status_byte(side, channel) / 2 % 2 != 1 {
+        return false;
+    }
+    has_valid(side, channel)
+}
+
+// Refusals 4, 5 and 6, each for both channels.
+fn check_status(side: &[u8]) -> Verdict
+    requires { ⌜ length (now side) ≡ sideLength ⌝ }
+    ensures { λ r. ⌜ verdictSaid r ≡ statusChecked (now (side .entry)) ⌝ }
+{
+    if is_consumer(side, 0) {
+        return Verdict::Refused {
+            number: 4,
+            place: 0,
+        };
+    }
+    if is_consumer(side, 1) {
+        return Verdict::Refused {
+            number: 4,
+            place: 1,
+        };
+    }
+    if is_wrong(side, 0) {
+        return Verdict::Refused {
+            number: 5,
+            place: 0,
+        };
+    }
+    if is_wrong(side, 1) {
+        return Verdict::Refused {
+            number: 5,
+            place: 1,
+        };
+    }
+    if is_unmarked(side, 0) {
+        return Verdict::Refused {
+            number: 6,
+            place: 0,
+        };
+    }
+    if is_unmarked(side, 1) {
+        return Verdict::Refused {
+            number: 6,
+            place: 1,
+        };
+    }
+    Verdict::Accepted
+}
+
+// Refusals 1, 3, 4, 5 and 6 of a block.
+pub fn check_block(samples: &[i32], side: &[u8]) -> Verdict
+    ensures { λ r. ⌜ verdictSaid r ≡ checked (now (samples .entry)) (now (side .entry)) ⌝ }
+{
+    if samples.len() != 384 {
+        return Verdict::Refused {
+            number: 1,
+            place: 0,
+        };
+    }
+    if side.len() != SIDE {
+        return Verdict::Refused {
+            number: 1,
+            place: 0,
+        };
+    }
+    let i = first_outside(samples);
+    if i < 384 {
+        return Verdict::Refused {
+            number: 3,
+            place: i as u32,
+        };
+    }
+    check_status(side)
 }

@@ -1,45 +1,37 @@
 -- Writing an HD audio data packet: lengths (1), ranges (2), odd bodies (9), bodies with a low four bit set (12). Assumes nothing.
 use Prim.Native.Nat.{ℕ, _%_, _^_}
 use mathlib.Core.Bool.{Bool, not, _&&_}
-use mathlib.Core.List.{List, _++_}
+use mathlib.Core.List.{List, [], _∷_, _++_}
 use lib.Dec.{eqb, leb}
 use lib.ListN.{length, getD}
-use Rattle.bits.specs.Pick.{pick, first}
-use Rattle.bits.specs.Row.{even}
-use Rattle.subframe.specs.Body.{slots}
-use Rattle.hd_lanes.specs.Lanes.{checkOctets}
-use Rattle.hd_packet.specs.Packet.{packetOf, dataOctets}
-use Rattle.write_answer.specs.Answer.{ifWritten}
-use Rattle.write_answer.specs.declared.WriteAnswer.{WriteAnswer}
-use Rattle.write_answer.specs.declared.WriteAnswer.the-variants.{Written, Refused}
+use Rattle.answer.specs.Answer.{Answer, Answer.accepted, rewritten}
+use Rattle.answer.specs.Demand.{Demand, Demand.asks, Demand.findsNone, provided}
+use Rattle.codes.specs.Lanes.{checkOctets}
+use Rattle.hd_packet.specs.Packet.{packetOf, dataOctets, oddBody}
+use Rattle.hd_packet.specs.declared.Fields.{Fields}
 
 -- group 1 to 4, DBN to 255, clock phase to 4,095, ck12 and both Z 0 or 1
-unfoldable pub inRanges : ℕ → ℕ → ℕ → ℕ → ℕ → ℕ → Bool
-inRanges group dbn phase ck12 z1 z2 = leb 1 group && leb group 4 && leb dbn 255 && leb phase 4095 && leb ck12 1 && leb z1 1 && leb z2 1
+unfoldable pub inRanges : Fields → Bool
+inRanges f =
+    leb 1 (f .group) && leb (f .group) 4 && leb (f .dbn) 255 && leb (f .phase) 4095 && leb (f .ck12) 1 && leb (f .z1) 1 && leb (f .z2) 1
 
--- body n has an odd number of ones in slots 4 to 31; one of its low four bits is set
-unfoldable pub oddBody : List ℕ → ℕ → Bool
-oddBody bodies n = not (even (slots (getD bodies n 0)))
-
+-- one of the low four bits of body n is set
 unfoldable pub lowBody : List ℕ → ℕ → Bool
 lowBody bodies n = not (eqb (getD bodies n 0 % 2 ^ 4) 0)
 
--- four bodies, and room for 31 words
-unfoldable pub writeAnswer : ℕ → ℕ → ℕ → ℕ → ℕ → ℕ → List ℕ → ℕ → WriteAnswer
-writeAnswer group dbn phase ck12 z1 z2 bodies room =
-    pick (eqb (length bodies) 4 && eqb room 31)
-    (pick (inRanges group dbn phase ck12 z1 z2)
-    (first (oddBody bodies) 0 4 (λ n. Refused 9 n)
-    (first (lowBody bodies) 0 4 (λ n. Refused 12 n) Written))
-    (Refused 2 0))
-    (Refused 1 0)
-
 -- the packet: words 0 to 23, the check words over them, CS
-unfoldable pub packetWritten : ℕ → ℕ → ℕ → ℕ → ℕ → ℕ → List ℕ → List ℕ
-packetWritten group dbn phase ck12 z1 z2 bodies =
-    packetOf (dataOctets group dbn phase ck12 z1 z2 bodies ++ checkOctets (dataOctets group dbn phase ck12 z1 z2 bodies))
+unfoldable pub packetWritten : Fields → List ℕ → List ℕ
+packetWritten f bodies = packetOf (dataOctets f bodies ++ checkOctets (dataOctets f bodies))
+
+-- four bodies and room for 31 words (1), ranges (2), each body even (9), each with the low four bits clear (12)
+abbrev pub writeDemands : Fields → List ℕ → ℕ → List Demand
+writeDemands f bodies room =
+    asks 1 0 (eqb (length bodies) 4) ∷ asks 1 0 (eqb room 31) ∷ asks 2 0 (inRanges f) ∷ findsNone 9 (oddBody bodies) 0 (length bodies)
+    ∷ findsNone 12 (lowBody bodies) 0 (length bodies) ∷ []
+
+unfoldable pub writeAnswer : Fields → List ℕ → ℕ → Answer (List ℕ)
+writeAnswer f bodies room = provided (writeDemands f bodies room) (accepted (packetWritten f bodies))
 
 -- the words afterwards: the packet, or on refusal what stood there
-unfoldable pub wordsWritten : ℕ → ℕ → ℕ → ℕ → ℕ → ℕ → List ℕ → List ℕ → List ℕ
-wordsWritten group dbn phase ck12 z1 z2 bodies old =
-    ifWritten (writeAnswer group dbn phase ck12 z1 z2 bodies (length old)) (packetWritten group dbn phase ck12 z1 z2 bodies) old
+abbrev pub wordsWritten : Fields → List ℕ → List ℕ → List ℕ
+wordsWritten f bodies old = rewritten (writeAnswer f bodies (length old)) old

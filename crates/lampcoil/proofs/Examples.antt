@@ -9,29 +9,30 @@ use lib.ListN.{replicate}
 use Rattle.bits.specs.Row.{bits, bigBits, count, little, big}
 use Rattle.bits.specs.Window.{part}
 use Rattle.bits.specs.Pack.{chain, pack, octets}
+use Rattle.answer.specs.Answer.{told}
+use Rattle.answer.specs.Demand.{provided}
 use Rattle.line.specs.Preamble.{afterLevel}
-use Rattle.line.specs.Biphase.{slots, left}
-use Rattle.subframe.specs.Body.{slots as slotsOf}
-use Rattle.subframe.specs.Body.{dataOf, withP, bodyOf, bodyWritten, bodyTold}
+use Rattle.line.specs.Biphase.{biphase, left}
+use Rattle.subframe.specs.Body.{slots, parityOf, dataOf, withP, bodyOf, bodyWritten}
 use Rattle.codes.specs.Divide.{less, fed, through}
 use Rattle.codes.specs.Crcc.{sent, stagesAfter, octetOf, crccOf}
 use Rattle.codes.specs.Lane.{laneCheck}
-use Rattle.aes3_code.specs.Subframe.{due, preamble, subframe}
+use Rattle.aes3_line.specs.Subframe.{due, preamble, subframe}
 use Rattle.anc.specs.Word.{wordOf}
 use Rattle.hd_packet.specs.Packet.{channelOctets, withZ}
 
 -- number, place and body of a sample with V, U, C
-abbrev told : ℤ → ℕ → ℕ → ℕ → List ℕ
-told sample v u c =
-    let t = bodyTold (bodyWritten sample v u c) in
+abbrev bodyTold : ℤ → ℕ → ℕ → ℕ → List ℕ
+bodyTold sample v u c =
+    let t = told 0 (bodyWritten sample v u c) in
     t .0 ∷ t .1 ∷ t .2 ∷ []
 
 abbrev given : List (List ℕ)
 given =
-    told (pos 1) 0 0 0
-    ∷ told (negsuc 0) 0 0 0
-    ∷ told (negsuc 8388607) 0 0 0
-    ∷ told (pos 0) 1 0 0
+    bodyTold (pos 1) 0 0 0
+    ∷ bodyTold (negsuc 0) 0 0 0
+    ∷ bodyTold (negsuc 8388607) 0 0 0
+    ∷ bodyTold (pos 0) 1 0 0
     ∷ octets 8 (subframe 2 false 0)
     ∷ octets 8 (subframe 2 true 0)
     ∷ octets 8 (subframe 0 false 0x80000010)
@@ -62,5 +63,5 @@ stated =
     ∷ []
 
 pub eleven-examples : given ≡ stated
-unfolding bits bigBits count little big part chain pack afterLevel slots left slotsOf dataOf withP bodyOf bodyWritten less fed through sent stagesAfter octetOf crccOf laneCheck due preamble subframe wordOf channelOctets xor
+unfolding bits bigBits count little big part chain pack afterLevel biphase left slots parityOf dataOf withP bodyOf provided bodyWritten less fed through sent stagesAfter octetOf crccOf laneCheck due preamble subframe wordOf channelOctets xor
 eleven-examples = refl

@@ -1,6 +1,2 @@
-pub mod Bodies
-pub mod Codes
 pub mod Status
-pub mod Written
-pub mod Lines
-pub mod Packets
+pub mod Told

@@ -1,127 +1,87 @@
-// The answers of the crates below, laid into the structs that C receives: document 01's number and place, then the values.
+// The answers of the crates below, laid into the structs that C receives: document 01's number and place, then the values,
+// which are 0 on a refusal.
 ghost use mathlib.Core.Path.{_≡_};
-ghost use Rattle.lampcoil.specs.Bodies.{bodyAnswer};
-ghost use Rattle.lampcoil.specs.Codes.{laneAnswer, stagesAnswer};
-ghost use Rattle.lampcoil.specs.Status.{statusAnswer};
-ghost use Rattle.lampcoil.specs.Written.{verdictOf};
-ghost use Rattle.lampcoil.specs.Lines.{blockRead, startFound, frameRead};
-ghost use Rattle.lampcoil.specs.Packets.{packetRead, packetRepaired, dbnAnswer};
-use crate::BlockRead;
-use crate::BlockStart;
-use crate::Body;
-use crate::FrameRead;
-use crate::Lane;
-use crate::NextDbn;
-use crate::PacketRead;
-use crate::PacketRepaired;
-use crate::Stages;
-use crate::StatusMeaning;
-use crate::Verdict;
-use codes::LaneAnswer;
-use codes::StagesAnswer;
-use hunt::Found;
-use subframe::BodyAnswer;
-use write_answer::WriteAnswer;
+ghost use Rattle.answer.specs.Said.{verdictSaid, numberSaid};
+ghost use Rattle.aes3_read.specs.Reader.{blockSaid};
+ghost use Rattle.madi_read.specs.Reader.{frameSaid};
+ghost use Rattle.hd_read.specs.Read.{packetSaid};
+ghost use Rattle.lampcoil.specs.Told.{toldVerdict, toldNumber, meaningLaid, toldBlock, toldFrame, toldPacket};
+use crate::Told;
+use crate::ToldBlock;
+use crate::ToldFrame;
+use crate::ToldMeaning;
+use crate::ToldNumber;
+use crate::ToldPacket;
+use answer::NumberAnswer;
+use answer::Verdict;
+use status::MeaningNumbers;
 
-pub fn body_answer(a: BodyAnswer) -> Body
-    ensures { λ r. ⌜ r ≡ bodyAnswer a ⌝ }
+pub fn verdict(a: Verdict) -> Told
+    ensures { λ r. ⌜ r ≡ toldVerdict (verdictSaid a) ⌝ }
 {
     match a {
-        BodyAnswer::Body(body) => Body {
+        Verdict::Accepted => Told {
             number: 0,
             place: 0,
-            body,
         },
-        BodyAnswer::Refused { number, place } => Body {
+        Verdict::Refused { number, place } => Told { number, place },
+    }
+}
+
+pub fn number(a: NumberAnswer) -> ToldNumber
+    ensures { λ r. ⌜ r ≡ toldNumber (numberSaid a) ⌝ }
+{
+    match a {
+        NumberAnswer::Number(value) => ToldNumber {
+            number: 0,
+            place: 0,
+            value,
+        },
+        NumberAnswer::Refused { number, place } => ToldNumber {
             number,
             place,
-            body: 0,
+            value: 0,
         },
     }
 }
 
-pub fn status_answer(number: u32, k: status_codes::Codes) -> StatusMeaning
-    ensures { λ r. ⌜ r ≡ statusAnswer number k ⌝ }
+// Numbers with a refusal's number beside them, or 0.
+pub fn meaning(number: u32, m: MeaningNumbers) -> ToldMeaning
+    ensures { λ r. ⌜ r ≡ meaningLaid number m ⌝ }
 {
-    StatusMeaning {
+    ToldMeaning {
         number,
         place: 0,
-        usage: k.usage,
-        audio: k.audio,
-        emphasis: k.emphasis,
-        emphasis_bits: k.emphasis_bits,
-        lock: k.lock,
-        rate: k.rate,
-        mode: k.mode,
-        mode_bits: k.mode_bits,
-        user: k.user,
-        user_bits: k.user_bits,
-        auxiliary: k.auxiliary,
-        auxiliary_bits: k.auxiliary_bits,
-        length: k.length,
-        length_bits: k.length_bits,
-        alignment: k.alignment,
-        alignment_bits: k.alignment_bits,
+        usage: m.usage,
+        audio: m.audio,
+        emphasis: m.emphasis,
+        emphasis_bits: m.emphasis_bits,
+        lock: m.lock,
+        rate: m.rate,
+        mode: m.mode,
+        mode_bits: m.mode_bits,
+        user: m.user,
+        user_bits: m.user_bits,
+        auxiliary: m.auxiliary,
+        auxiliary_bits: m.auxiliary_bits,
+        word_length: m.word_length,
+        word_length_bits: m.word_length_bits,
+        alignment: m.alignment,
+        alignment_bits: m.alignment_bits,
     }
 }
 
-pub fn stages_answer(a: StagesAnswer) -> Stages
-    ensures { λ r. ⌜ r ≡ stagesAnswer a ⌝ }
+pub fn block(a: aes3_read::ReadAnswer) -> ToldBlock
+    ensures { λ r. ⌜ r ≡ toldBlock (blockSaid a) ⌝ }
 {
     match a {
-        StagesAnswer::Stages(stages) => Stages {
-            number: 0,
-            place: 0,
-            stages,
-        },
-        StagesAnswer::Refused { number, place } => Stages {
-            number,
-            place,
-            stages: 0,
-        },
-    }
-}
-
-pub fn lane_answer(a: LaneAnswer) -> Lane
-    ensures { λ r. ⌜ r ≡ laneAnswer a ⌝ }
-{
-    match a {
-        LaneAnswer::Lane(lane) => Lane {
-            number: 0,
-            place: 0,
-            lane,
-        },
-        LaneAnswer::Refused(number) => Lane {
-            number: number as u32,
-            place: 0,
-            lane: 0,
-        },
-    }
-}
-
-pub fn verdict_of(a: WriteAnswer) -> Verdict
-    ensures { λ r. ⌜ r ≡ verdictOf a ⌝ }
-{
-    match a {
-        WriteAnswer::Written => Verdict {
-            number: 0,
-            place: 0,
-        },
-        WriteAnswer::Refused { number, place } => Verdict { number, place },
-    }
-}
-
-pub fn block_read(a: aes3_read::ReadAnswer) -> BlockRead
-    ensures { λ r. ⌜ r ≡ blockRead a ⌝ }
-{
-    match a {
-        aes3_read::ReadAnswer::Read { crcc_a, crcc_b } => BlockRead {
+        aes3_read::ReadAnswer::Read { crcc_a, crcc_b } => ToldBlock {
             number: 0,
             place: 0,
             crcc_a,
             crcc_b,
         },
-        aes3_read::ReadAnswer::Refused { number, place } => BlockRead {
+        aes3_read::ReadAnswer::Refused { number, place } => ToldBlock {
             number,
             place,
             crcc_a: 0,
@@ -130,34 +90,17 @@ pub fn block_read(a: aes3_read::ReadAnswer) -> BlockRead
     }
 }
 
-pub fn start_found(a: Found) -> BlockStart
-    ensures { λ r. ⌜ r ≡ startFound a ⌝ }
+pub fn frame(a: madi_read::ReadAnswer) -> ToldFrame
+    ensures { λ r. ⌜ r ≡ toldFrame (frameSaid a) ⌝ }
 {
     match a {
-        Found::At(position) => BlockStart {
-            number: 0,
-            place: 0,
-            position,
-        },
-        Found::Refused { number, place } => BlockStart {
-            number,
-            place,
-            position: 0,
-        },
-    }
-}
-
-pub fn frame_read(a: madi_piece::ReadAnswer) -> FrameRead
-    ensures { λ r. ⌜ r ≡ frameRead a ⌝ }
-{
-    match a {
-        madi_piece::ReadAnswer::Read { active, syncs } => FrameRead {
+        madi_read::ReadAnswer::Read { active, syncs } => ToldFrame {
             number: 0,
             place: 0,
             active,
             syncs,
         },
-        madi_piece::ReadAnswer::Refused { number, place } => FrameRead {
+        madi_read::ReadAnswer::Refused { number, place } => ToldFrame {
             number,
             place,
             active: 0,
@@ -166,11 +109,11 @@ pub fn frame_read(a: madi_piece::ReadAnswer) -> FrameRead
     }
 }
 
-pub fn packet_read(a: hd_read::ReadAnswer) -> PacketRead
-    ensures { λ r. ⌜ r ≡ packetRead a ⌝ }
+pub fn packet(a: hd_read::ReadAnswer) -> ToldPacket
+    ensures { λ r. ⌜ r ≡ toldPacket (packetSaid a) ⌝ }
 {
     match a {
-        hd_read::ReadAnswer::Read(fields) => PacketRead {
+        hd_read::ReadAnswer::Read(fields) => ToldPacket {
             number: 0,
             place: 0,
             group: fields.group,
@@ -180,7 +123,7 @@ pub fn packet_read(a: hd_read::ReadAnswer) -> PacketRead
             z1: fields.z1,
             z2: fields.z2,
         },
-        hd_read::ReadAnswer::Refused { number, place } => PacketRead {
+        hd_read::ReadAnswer::Refused { number, place } => ToldPacket {
             number,
             place,
             group: 0,
@@ -189,40 +132,6 @@ pub fn packet_read(a: hd_read::ReadAnswer) -> PacketRead
             ck12: 0,
             z1: 0,
             z2: 0,
-        },
-    }
-}
-
-pub fn packet_repaired(a: hd_repair::RepairAnswer) -> PacketRepaired
-    ensures { λ r. ⌜ r ≡ packetRepaired a ⌝ }
-{
-    match a {
-        hd_repair::RepairAnswer::Repaired { lanes } => PacketRepaired {
-            number: 0,
-            place: 0,
-            lanes,
-        },
-        hd_repair::RepairAnswer::Refused { number, place } => PacketRepaired {
-            number,
-            place,
-            lanes: 0,
-        },
-    }
-}
-
-pub fn dbn_answer(a: hd::DbnAnswer) -> NextDbn
-    ensures { λ r. ⌜ r ≡ dbnAnswer a ⌝ }
-{
-    match a {
-        hd::DbnAnswer::Next(dbn) => NextDbn {
-            number: 0,
-            place: 0,
-            dbn,
-        },
-        hd::DbnAnswer::Refused { number, place } => NextDbn {
-            number,
-            place,
-            dbn: 0,
         },
     }
 }

@@ -17,7 +17,7 @@ use Rattle.bits.proofs.Chains.{part-first, part-second}
 use Rattle.madi_code.specs.Groups.{sync}
 use Rattle.madi_code.specs.Channels.{channelRow}
 use Rattle.madi_code.proofs.ChannelLaws.{length-channel}
-use Rattle.madi_piece.specs.Reader.{isSync}
+use Rattle.madi_read.specs.Reader.{isSync}
 use Rattle.madi.specs.Units.{Units, end, sync-next, channel-next, SyncsLast}
 
 -- a sync stands at the start

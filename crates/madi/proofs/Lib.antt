@@ -1,7 +1,5 @@
-pub mod Lines
 pub mod Sending
 pub mod ReadWritten
-pub mod Accepting
 pub mod Standing
 pub mod CountsStood
 pub mod LastSyncs

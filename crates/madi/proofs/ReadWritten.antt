@@ -1,39 +1,44 @@
--- What the writer accepts the reader accepts, with the same words, active count and sync count; one proof for both channel counts.
--- Assumes nothing.
+-- What the writer accepts the reader accepts, with the same words, active count and sync count; one proof for both
+-- channel counts. Assumes nothing.
 use mathlib.Core.Path.{_≡_, refl, sym, ap, ap₂, _∙_}
-use mathlib.Core.Bool.{false}
+use mathlib.Core.Bool.{true}
 use mathlib.Core.List.{List, [], _∷_, _++_}
-use Prim.Native.Nat.{ℕ, zero, suc, _+_, _*_, _-_, _^_, _≤_, _<_, min}
-use native.Mathlib.Nat.{zero-add}
+use Prim.Native.Nat.{ℕ, zero, suc, _+_, _*_, _-_, _%_, _^_, _≤_, _<_, min}
 use native.Mathlib.Numerals.{add-one}
 use native.Mathlib.Omega.{arith}
-use borrow.Author.Tests.{lt-ltb, le-ltb, le-leb, eq-eqb, ne-eqb}
+use borrow.Author.Tests.{le-leb, eq-eqb}
 use lib.ListN.{length, getD, take}
 use lib.Seq.{take-suc, take-length}
 use Rattle.bits.specs.Row.{Row, odd, big, Below}
 use Rattle.bits.specs.Window.{part, window}
 use Rattle.bits.specs.Pack.{octets, symbols}
-use Rattle.bits.proofs.Windows.{getD-part, window-same}
 use Rattle.bits.proofs.Packing.{length-pack}
+use Rattle.answer.specs.Answer.{Answer.accepted}
+use Rattle.answer.specs.Demand.{_&_}
+use Rattle.subframe.specs.Body.{evenBody}
 use Rattle.line.specs.Nrzi.{levels}
 use Rattle.madi_code.specs.Groups.{sync}
-use Rattle.madi_code.specs.Channels.{channelRow}
-use Rattle.madi_frame.specs.Frame.{boundary}
-use Rattle.madi_code.proofs.ChannelLaws.{channel-back, channel-no-sync}
-use Rattle.madi_piece.specs.Reader.{carried, pieceAt, taken, readFrom, readRow, readFrame}
-use Rattle.madi_piece.specs.declared.Piece.the-variants.{End, Sync, Slot}
-use Rattle.madi_read.proofs.Walking.{read-step}
-use Rattle.madi_write.specs.Writer.{frameRow, needed, frameOctets, writeAnswer}
-use Rattle.madi_write.specs.Inner.{sentWord, syncsNumber}
-use Rattle.write_answer.specs.declared.WriteAnswer.the-variants.{Written}
-use Rattle.madi_write.proofs.Frames.{word-at, length-frame, frame-channel, frame-syncs}
-use Rattle.madi_write.proofs.Checks.{Clean, writable}
+use Rattle.madi_code.specs.Channels.{channelRow, channelOf}
+use Rattle.madi_code.specs.Frame.{boundary}
+use Rattle.madi_code.specs.declared.ChannelBits.the-variants.{Word}
+use Rattle.madi_code.proofs.ChannelLaws.{channel-back}
+use Rattle.madi_read.specs.Reader.{carried, Frame, pieceAt, readOn, rowRead, frameRead}
+use Rattle.madi_read.specs.Inner.{sofar}
+use Rattle.madi_read.specs.declared.Piece.the-variants.{End, Sync, Channel}
+use Rattle.madi_read.proofs.Lines.{line-carries, line-spare}
+use Rattle.madi_read.proofs.Walking.{read-step, from-start}
+use Rattle.madi_read.proofs.Onward.{piece-channel, piece-sync, piece-end}
+use Rattle.madi_read.proofs.Accepting.{demands-met}
+use Rattle.madi_write.specs.Writer.{frameRow, needed, frameWritten}
+use Rattle.madi_write.specs.Inner.{sentWord}
+use Rattle.madi_write.proofs.Frames.{word-at, length-frame, frame-channel, frame-sync, frame-octets}
+use Rattle.madi_write.proofs.Checks.{accepted-frame}
 use Rattle.madi.specs.Units.{padded}
-use Rattle.madi.proofs.Lines.{line-carries, line-spare}
-use Rattle.madi.proofs.Sending.{sent-small, sent-bit, slot-right, padded-at, length-padded}
+use Rattle.madi.proofs.Sending.{sent-small, sent-bit, channel-right, padded-at, length-padded}
 
-module _ (channels : ℕ) (words : List ℕ) (syncs : ℕ) (ok : Clean words) (small : Below (2 ^ 32) words) (some : 1 ≤ length words)
-    (most : length words ≤ channels) (synced : 1 ≤ syncs) (short : syncs ≤ 255) where
+module _ (channels : ℕ) (words : List ℕ) (syncs : ℕ) (even : (i : ℕ) → i < length words → evenBody (getD words i 0) ≡ true)
+    (clean : (k : ℕ) → getD words k 0 % 4 ≡ 0) (small : Below (2 ^ 32) words) (some : 1 ≤ length words) (most : length words ≤ channels)
+    (synced : 1 ≤ syncs) (short : syncs ≤ 255) where
   row : Row
   row = frameRow channels words syncs
 
@@ -41,117 +46,91 @@ module _ (channels : ℕ) (words : List ℕ) (syncs : ℕ) (ok : Clean words) (s
   unfolding row
   long = length-frame channels words syncs most
 
-  channel-there : (n : ℕ) → n < channels → part row (40 * n + 10 * 0) 40 ≡ channelRow (sentWord words n)
+  word-there : (n : ℕ) → n < channels → channelOf (part row (40 * n + 10 * 0) 40) ≡ Word (sentWord words n)
   unfolding row
-  channel-there n h =
+  word-there n h =
       let p : 40 * n + 10 * 0 ≡ 40 * n = omega arith in
-      ap (λ (q : ℕ). part row q 40) p ∙ frame-channel channels words syncs most n h ∙ ap channelRow (word-at channels words n h)
+      ap channelOf (ap (λ (q : ℕ). part row q 40) p ∙ frame-channel channels words syncs most n h ∙ ap channelRow (word-at channels words n h))
+      ∙ channel-back (sentWord words n) (sent-small words even clean small n)
 
-  not-sync : (n : ℕ) → n < channels → window row (40 * n + 10 * 0) 10 ≡ sync → ⊥
-  unfolding window
-  not-sync n h e =
-      channel-no-sync (sentWord words n)
-      (window-same (channelRow (sentWord words n)) row 0 (40 * n + 10 * 0) 10 (λ k l. ap (λ (s : Row). getD s (0 + k) false) (sym (channel-there n h))
-      ∙ getD-part row (40 * n + 10 * 0) 40 (0 + k) (omega arith) ∙ ap (λ (i : ℕ). getD row (40 * n + 10 * 0 + i) false) (zero-add k)) ∙ e)
+  channel-there : (n : ℕ) (ws : List ℕ) → n < channels → pieceAt row channels (sofar n (min n (length words)) 0 ws) ≡ Channel (sentWord words n)
+  channel-there n ws h =
+      piece-channel row channels (sofar n (min n (length words)) 0 ws) (sentWord words n) h (omega (arith, long)) (word-there n h)
+      (channel-right words even clean small n some)
 
-  slot-there : (n : ℕ) → n < channels → pieceAt row channels n (min n (length words)) 0 ≡ Slot (sentWord words n)
-  unfolding pieceAt
-  slot-there n h =
-      rw (
-        long,
-        ne-eqb (40 * n + 10 * 0) (40 * channels + 10 * syncs) (λ e. omega arith),
-        le-leb (40 * n + 10 * 0 + 10) (40 * channels + 10 * syncs) (omega arith),
-        ne-eqb (window row (40 * n + 10 * 0) 10) sync (not-sync n h),
-        le-ltb (40 * channels + 10 * syncs) (40 * n + 10 * 0 + 40) (omega arith),
-        ne-eqb n channels (λ e. omega arith),
-        channel-there n h,
-        channel-back (sentWord words n) (sent-small words ok small n),
-      )
-      (slot-right words ok small n some)
+  sync-there : (s : ℕ) (ws : List ℕ) → s < syncs → pieceAt row channels (sofar channels (length words) s ws) ≡ Sync
+  unfolding row
+  sync-there s ws h =
+      piece-sync row channels (sofar channels (length words) s ws) (omega arith) (omega (arith, long)) (frame-sync channels words syncs most s h)
 
-  sync-there : (s active : ℕ) → s < syncs → pieceAt row channels channels active s ≡ Sync
-  unfolding pieceAt row syncsNumber
-  sync-there s active h =
-      rw (
-        long,
-        ne-eqb (40 * channels + 10 * s) (40 * channels + 10 * syncs) (λ e. omega arith),
-        le-leb (40 * channels + 10 * s + 10) (40 * channels + 10 * syncs) (omega arith),
-        eq-eqb (window row (40 * channels + 10 * s) 10) sync (frame-syncs channels words syncs most s 1 (omega arith)),
-        lt-ltb s 255 (omega arith),
-      )
+  -- n channels so far, of those that the words stand for
+  abbrev so-many : ℕ → Frame
+  so-many n = sofar n (min n (length words)) 0 (take n (padded channels words))
 
-  end-there : (active : ℕ) → pieceAt row channels channels active syncs ≡ End
-  unfolding pieceAt
-  end-there active =
-      rw (long, eq-eqb (40 * channels + 10 * syncs) (40 * channels + 10 * syncs) refl, eq-eqb channels channels refl, lt-ltb 0 syncs (omega arith))
+  -- all of them, and s syncs
+  abbrev with-syncs : ℕ → Frame
+  with-syncs s = sofar channels (length words) s (padded channels words)
 
   read-channels : (k n : ℕ) → n + k ≡ channels
-      → readFrom row channels (channels + 256 - (n + 0)) n (min n (length words)) 0 (take n (padded channels words))
-      ≡ readFrom row channels (channels + 256 - (channels + 0)) channels (length words) 0 (padded channels words)
+      → readOn row channels (channels + 256 - (n + 0)) (so-many n) ≡ readOn row channels (channels + 256 - (channels + 0)) (with-syncs 0)
   read-channels zero n e =
       let m : min n (length words) ≡ length words = omega arith in
       let z : n ≡ channels = omega arith in
       let l : n ≡ length (padded channels words) = z ∙ sym (length-padded channels words most) in
-      ap₂ (λ (x : ℕ) (y : List ℕ). readFrom row channels (channels + 256 - (n + 0)) n x 0 y) m
+      ap₂ (λ (x : ℕ) (y : List ℕ). readOn row channels (channels + 256 - (n + 0)) (sofar n x 0 y)) m
       (ap (λ (i : ℕ). take i (padded channels words)) l ∙ take-length (padded channels words))
-      ∙ ap (λ (i : ℕ). readFrom row channels (channels + 256 - (i + 0)) i (length words) 0 (padded channels words)) z
+      ∙ ap (λ (i : ℕ). readOn row channels (channels + 256 - (i + 0)) (sofar i (length words) 0 (padded channels words))) z
   read-channels (suc k) n e =
       let h : n < channels = omega arith in
       let lt : n < length (padded channels words) = omega (arith, length-padded channels words most) in
       let fuel : channels + 256 - (n + 0 + 1) ≡ channels + 256 - (n + 1 + 0) = omega arith in
-      read-step row channels n (min n (length words)) 0 (omega arith) (omega arith) (take n (padded channels words)) (Slot (sentWord words n)) (slot-there n h)
-      ∙ ap₂ (λ (x : ℕ) (y : List ℕ). readFrom row channels (channels + 256 - (n + 0 + 1)) (n + 1) x 0 y) (sent-bit words ok small n)
-      (ap (λ (v : ℕ). take n (padded channels words) ++ (v ∷ [])) (sym (padded-at words ok small channels n h)) ∙ sym (take-suc (padded channels words) n 0 lt)
-      ∙ ap (λ (i : ℕ). take i (padded channels words)) (sym (add-one n)))
-      ∙ ap (λ (x : ℕ). readFrom row channels x (n + 1) (min (n + 1) (length words)) 0 (take (n + 1) (padded channels words))) fuel
-      ∙ read-channels k (n + 1) (omega arith)
+      read-step row channels (so-many n) (omega arith) (omega arith) (Channel (sentWord words n)) (channel-there n (take n (padded channels words)) h)
+      ∙ ap₂ (λ (x : ℕ) (y : List ℕ). readOn row channels (channels + 256 - (n + 0 + 1)) (sofar (n + 1) x 0 y)) (sent-bit words even clean small n)
+      (ap (λ (v : ℕ). take n (padded channels words) ++ (v ∷ [])) (sym (padded-at words even clean small channels n h))
+      ∙ sym (take-suc (padded channels words) n 0 lt) ∙ ap (λ (i : ℕ). take i (padded channels words)) (sym (add-one n)))
+      ∙ ap (λ (x : ℕ). readOn row channels x (so-many (n + 1))) fuel ∙ read-channels k (n + 1) (omega arith)
 
-  read-syncs : (k s : ℕ) → s + k ≡ syncs
-      → readFrom row channels (channels + 256 - (channels + s)) channels (length words) s (padded channels words)
-      ≡ taken (length words) syncs (padded channels words)
+  read-syncs : (k s : ℕ) → s + k ≡ syncs → readOn row channels (channels + 256 - (channels + s)) (with-syncs s) ≡ accepted (with-syncs syncs)
   read-syncs zero s e =
       let z : s ≡ syncs = omega arith in
-      read-step row channels channels (length words) s (omega arith) (omega arith) (padded channels words) End
-      (ap (pieceAt row channels channels (length words)) z ∙ end-there (length words))
-      ∙ ap (λ (x : ℕ). taken (length words) x (padded channels words)) z
+      read-step row channels (with-syncs s) (omega arith) (omega arith) End (piece-end row channels (with-syncs s) (omega (arith, long)) refl (omega arith))
+      ∙ ap (λ (x : ℕ). accepted (with-syncs x)) z
   read-syncs (suc k) s e =
       let fuel : channels + 256 - (channels + s + 1) ≡ channels + 256 - (channels + (s + 1)) = omega arith in
-      read-step row channels channels (length words) s (omega arith) (omega arith) (padded channels words) Sync (sync-there s (length words) (omega arith))
-      ∙ ap (λ (x : ℕ). readFrom row channels x channels (length words) (s + 1) (padded channels words)) fuel ∙ read-syncs k (s + 1) (omega arith)
+      read-step row channels (with-syncs s) (omega arith) (omega arith) Sync (sync-there s (padded channels words) (omega arith))
+      ∙ ap (λ (x : ℕ). readOn row channels x (with-syncs (s + 1))) fuel ∙ read-syncs k (s + 1) (omega arith)
 
-  pub row-read : readRow (frameRow channels words syncs) channels ≡ taken (length words) syncs (padded channels words)
-  unfolding readRow row
+  pub row-read : rowRead (frameRow channels words syncs) channels ≡ accepted (with-syncs syncs)
+  unfolding row
   row-read =
-      let z : channels + 256 ≡ channels + 256 - (0 + 0) = omega arith in
       let m : 0 ≡ min 0 (length words) = omega arith in
-      ap₂ (λ (x y : ℕ). readFrom row channels x 0 y 0 []) z m ∙ read-channels channels 0 (omega arith) ∙ read-syncs syncs 0 (omega arith)
+      from-start row channels ∙ ap (λ (x : ℕ). readOn row channels (channels + 256 - (0 + 0)) (sofar 0 x 0 [])) m
+      ∙ read-channels channels 0 (omega arith) ∙ read-syncs syncs 0 (omega arith)
 
 -- ---- the promise
 
-module _ (channels : ℕ) (words : List ℕ) (syncs level room : ℕ) (small : Below (2 ^ 32) words)
-    (accepts : writeAnswer channels words syncs level room ≡ Written) where
-  -- the reader, given the line that was written, its length in bits and its level, answers with the counts and the words
-  pub read-written : readFrame channels level (boundary channels syncs) (frameOctets channels words syncs level) channels
-      ≡ taken (length words) syncs (padded channels words)
-  unfolding readFrame frameOctets
+module _ (channels : ℕ) (words : List ℕ) (syncs level room : ℕ) (line : List ℕ) (small : Below (2 ^ 32) words)
+    (accepts : frameWritten channels words syncs level room ≡ accepted line) where
+  -- the reader, given the octets that the writer leaves, their length in bits and the level, answers with the counts
+  -- and the words
+  pub read-written : frameRead channels level (boundary channels syncs) line channels
+      ≡ accepted (sofar channels (length words) syncs (padded channels words))
   read-written =
-      let w = writable channels words syncs level room accepts in
-      let r = w .range in
+      let p = accepted-frame channels words syncs level room line accepts in
+      let w = p .0 in
+      let b = boundary channels syncs in
       let n = needed channels syncs in
-      let row′ : Row = frameRow channels words syncs in
-      let line : List ℕ = octets n (levels (odd level) row′) in
-      let long′ : length row′ ≡ boundary channels syncs = length-frame channels words syncs (r .most) in
-      let length-line : length line ≡ n = length-pack big 8 n (levels (odd level) row′) in
-      let spare : window (symbols line) (boundary channels syncs) (length line * 8 - boundary channels syncs) ≡ 0 =
-      ap (λ (b : ℕ). window (symbols line) b (length line * 8 - boundary channels syncs)) (sym long′)
-      ∙ line-spare level row′ n (omega arith) (length line * 8 - boundary channels syncs) (omega arith) in
-      rw (
-        r .counts,
-        le-leb level 1 (r .digital),
-        le-leb (boundary channels syncs) 5110 (omega arith),
-        eq-eqb (length line) n length-line,
-        eq-eqb channels channels refl,
-        eq-eqb (window (symbols line) (boundary channels syncs) (length line * 8 - boundary channels syncs)) 0 spare,
-      )
-      (ap (λ (s : Row). readRow s channels) (ap (λ (b : ℕ). carried level b line) (sym long′) ∙ line-carries level row′ n (omega arith))
-      ∙ row-read channels words syncs (w .words-right) small (r .some) (r .most) (r .synced) (r .short))
+      let sent : Row = frameRow channels words syncs in
+      let is : octets n (levels (odd level) sent) ≡ line = sym (frame-octets channels words syncs level) ∙ p .1 in
+      let long′ : length sent ≡ b = length-frame channels words syncs (w .most) in
+      let length-line : length line ≡ n = ap length (sym is) ∙ length-pack big 8 n (levels (odd level) sent) in
+      let spare : window (symbols line) b (length line * 8 - b) ≡ 0 =
+      ap₂ (λ (l : List ℕ) (at : ℕ). window (symbols l) at (length line * 8 - b)) (sym is) (sym long′)
+      ∙ line-spare level sent n (omega arith) (length line * 8 - b) (omega arith) in
+      let carries : carried level b line ≡ sent =
+      ap₂ (λ (l : List ℕ) (k : ℕ). carried level k l) (sym is) (sym long′) ∙ line-carries level sent n (omega arith) in
+      demands-met channels level b line channels
+      (w .counts & le-leb level 1 (w .digital) & le-leb b 5110 (omega (arith, w .at-most, w .short)) & eq-eqb (length line) n length-line & eq-eqb channels channels refl
+      & eq-eqb (window (symbols line) b (length line * 8 - b)) 0 spare & tt)
+      ∙ ap (λ (r : Row). rowRead r channels) carries
+      ∙ row-read channels words syncs (w .even) (w .clean) small (w .some) (w .most) (w .synced) (w .short)

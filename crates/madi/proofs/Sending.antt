@@ -2,7 +2,7 @@
 use mathlib.Core.Path.{_≡_, refl, sym, ap, _∙_}
 use mathlib.Core.Bool.{Bool, true, false}
 use mathlib.Core.List.{List, _++_}
-use Prim.Native.Nat.{ℕ, _+_, _-_, _/_, _^_, _≤_, _<_, min}
+use Prim.Native.Nat.{ℕ, _+_, _-_, _/_, _%_, _^_, _≤_, _<_, min}
 use native.Mathlib.Nat.{div-one}
 use native.Mathlib.Omega.{arith}
 use native.Mathlib.Decide.{decLt}
@@ -11,34 +11,25 @@ use lib.Dec.{eqb}
 use lib.ListN.{length, getD, replicate, length-append, length-replicate, getD-replicate, List·getD-append}
 use lib.Seq.{getD-append-add}
 use Rattle.bits.specs.Pick.{pick}
-use Rattle.bits.specs.Row.{bit, bits, even, count, Below}
-use Rattle.subframe.specs.Body.{slots}
-use Rattle.madi_frame.specs.Frame.{evenBody}
-use Rattle.madi_piece.specs.Reader.{firstRight, activeRight, slotOf, cleared}
-use Rattle.madi_piece.specs.declared.Piece.the-variants.{Slot}
+use Rattle.bits.specs.Row.{bit, Below}
+use Rattle.subframe.specs.Body.{evenBody}
+use Rattle.subframe.proofs.BodyLaws.{parity-above, parity-zero}
+use Rattle.madi_read.specs.Reader.{firstRight, activeRight, channelPiece, cleared}
+use Rattle.madi_read.specs.declared.Piece.the-variants.{Channel}
 use Rattle.madi_write.specs.Inner.{sentWord}
-use Rattle.madi_write.proofs.Checks.{Clean}
+use Rattle.madi_write.proofs.Frames.{sent-active, sent-idle}
 use Rattle.madi.specs.Units.{padded}
 
 -- bits 0 to 3 play no part in the parity
 pub even-same : (v w : ℕ) → v / 16 ≡ w / 16 → evenBody v ≡ evenBody w
-unfolding evenBody slots
-even-same v w e = rw e
+even-same v w e = ap (λ (p : ℕ). eqb p 0) (parity-above v w e)
 
 pub even-zero : evenBody 0 ≡ true
-unfolding evenBody slots bits count
-even-zero = refl
+even-zero = eq-eqb _ 0 parity-zero
 
 -- what the writer's checks leave of its words
-module _ (words : List ℕ) (ok : Clean words) (small : Below (2 ^ 32) words) where
-  active-word : (n : ℕ) → n < length words → sentWord words n ≡ getD words n 0 + pick (eqb n 0) 3 2
-  unfolding sentWord
-  active-word n h = rw (lt-ltb n (length words) h)
-
-  idle-word : (n : ℕ) → length words ≤ n → sentWord words n ≡ 0
-  unfolding sentWord
-  idle-word n h = rw (le-ltb n (length words) h)
-
+module _ (words : List ℕ) (even : (i : ℕ) → i < length words → evenBody (getD words i 0) ≡ true) (clean : (k : ℕ) → getD words k 0 % 4 ≡ 0)
+    (small : Below (2 ^ 32) words) where
   -- bits 0 and 1 of an active word
   marks : (n : ℕ) → (e : ℕ) × (pick (eqb n 0) 3 2 ≡ 2 + e) × (e < 2) × (pick (eqb n 0) 1 0 ≡ e)
   marks n = go (eqb n 0)
@@ -51,15 +42,15 @@ module _ (words : List ℕ) (ok : Clean words) (small : Below (2 ^ 32) words) wh
   sent-small n = go (decLt n (length words))
     where
       go : Dec (n < length words) → sentWord words n < 2 ^ 32
-      go (yes h) = omega (arith, active-word n h, marks n .1, marks n .2, ok .clean n, small n)
-      go (no h) = omega (arith, idle-word n (omega arith))
+      go (yes h) = omega (arith, sent-active words n h, marks n .1, marks n .2, clean n, small n)
+      go (no h) = omega (arith, sent-idle words n (omega arith))
 
   pub sent-bit : (n : ℕ) → min n (length words) + bit 1 (sentWord words n) ≡ min (n + 1) (length words)
   sent-bit n = go (decLt n (length words))
     where
       go : Dec (n < length words) → min n (length words) + bit 1 (sentWord words n) ≡ min (n + 1) (length words)
-      go (yes h) = omega (arith, active-word n h, marks n .1, marks n .2, ok .clean n)
-      go (no h) = omega (arith, idle-word n (omega arith))
+      go (yes h) = omega (arith, sent-active words n h, marks n .1, marks n .2, clean n)
+      go (no h) = omega (arith, sent-idle words n (omega arith))
 
   first-ok : (n : ℕ) → 1 ≤ length words → firstRight n (sentWord words n) ≡ true
   first-ok n some = go (decLt n (length words))
@@ -67,20 +58,20 @@ module _ (words : List ℕ) (ok : Clean words) (small : Below (2 ^ 32) words) wh
       go : Dec (n < length words) → firstRight n (sentWord words n) ≡ true
       go (yes h) =
           rw (marks n .3)
-          (eq-eqb (bit 0 (sentWord words n)) (marks n .0) (omega (arith, active-word n h, marks n .1, marks n .2, ok .clean n, div-one (sentWord words n))))
+          (eq-eqb (bit 0 (sentWord words n)) (marks n .0) (omega (arith, sent-active words n h, marks n .1, marks n .2, clean n, div-one (sentWord words n))))
       go (no h) =
           let none : _≡_ {A = ℕ} (pick (eqb n 0) 1 0) 0 = rw (ne-eqb n 0 (λ z. omega arith)) in
-          rw none (eq-eqb (bit 0 (sentWord words n)) 0 (omega (arith, idle-word n (omega arith), div-one (sentWord words n))))
+          rw none (eq-eqb (bit 0 (sentWord words n)) 0 (omega (arith, sent-idle words n (omega arith), div-one (sentWord words n))))
 
   active-ok : (n : ℕ) → activeRight n (min n (length words)) (sentWord words n) ≡ true
   active-ok n = go (decLt n (length words))
     where
       go : Dec (n < length words) → activeRight n (min n (length words)) (sentWord words n) ≡ true
       go (yes h) =
-          rw (eq-eqb (bit 1 (sentWord words n)) 1 (omega (arith, active-word n h, marks n .1, marks n .2, ok .clean n)))
+          rw (eq-eqb (bit 1 (sentWord words n)) 1 (omega (arith, sent-active words n h, marks n .1, marks n .2, clean n)))
           (eq-eqb n (min n (length words)) (omega arith))
       go (no h) =
-          let z : sentWord words n ≡ 0 = idle-word n (omega arith) in
+          let z : sentWord words n ≡ 0 = sent-idle words n (omega arith) in
           rw z
 
   even-ok : (n : ℕ) → evenBody (sentWord words n) ≡ true
@@ -88,11 +79,11 @@ module _ (words : List ℕ) (ok : Clean words) (small : Below (2 ^ 32) words) wh
     where
       go : Dec (n < length words) → evenBody (sentWord words n) ≡ true
       go (yes h) =
-          even-same (sentWord words n) (getD words n 0) (omega (arith, active-word n h, marks n .1, marks n .2, ok .clean n)) ∙ ok .even n h
-      go (no h) = ap evenBody (idle-word n (omega arith)) ∙ even-zero
+          even-same (sentWord words n) (getD words n 0) (omega (arith, sent-active words n h, marks n .1, marks n .2, clean n)) ∙ even n h
+      go (no h) = ap evenBody (sent-idle words n (omega arith)) ∙ even-zero
 
-  pub slot-right : (n : ℕ) → 1 ≤ length words → slotOf n (min n (length words)) (sentWord words n) ≡ Slot (sentWord words n)
-  slot-right n some = rw (first-ok n some, active-ok n, even-ok n)
+  pub channel-right : (n : ℕ) → 1 ≤ length words → channelPiece n (min n (length words)) (sentWord words n) ≡ Channel (sentWord words n)
+  channel-right n some = rw (first-ok n some, active-ok n, even-ok n)
 
   -- with bits 0 and 1 cleared they are the given words, and zeros
   pub padded-at : (channels n : ℕ) → n < channels → getD (padded channels words) n 0 ≡ cleared (sentWord words n)
@@ -101,12 +92,12 @@ module _ (words : List ℕ) (ok : Clean words) (small : Below (2 ^ 32) words) wh
     where
       go : Dec (n < length words) → getD (words ++ replicate (channels - length words) 0) n 0 ≡ cleared (sentWord words n)
       go (yes q) =
-          List·getD-append words (replicate (channels - length words) 0) 0 n q ∙ omega (arith, active-word n q, marks n .1, marks n .2, ok .clean n)
+          List·getD-append words (replicate (channels - length words) 0) 0 n q ∙ omega (arith, sent-active words n q, marks n .1, marks n .2, clean n)
       go (no q) =
           let e : length words + (n - length words) ≡ n = omega arith in
           ap (λ (i : ℕ). getD (words ++ replicate (channels - length words) 0) i 0) (sym e)
           ∙ getD-append-add words (replicate (channels - length words) 0) (n - length words) 0
-          ∙ getD-replicate (channels - length words) (n - length words) 0 0 (omega arith) ∙ sym (ap cleared (idle-word n (omega arith)))
+          ∙ getD-replicate (channels - length words) (n - length words) 0 0 (omega arith) ∙ sym (ap cleared (sent-idle words n (omega arith)))
 
 pub length-padded : (channels : ℕ) (words : List ℕ) → length words ≤ channels → length (padded channels words) ≡ channels
 unfolding padded

@@ -7,7 +7,7 @@ use lib.ListN.{length, replicate}
 use Rattle.bits.specs.Row.{Row, bigBits}
 use Rattle.madi_code.specs.Groups.{sync}
 use Rattle.madi_code.specs.Channels.{channelRow}
-use Rattle.madi_piece.specs.Reader.{isSync}
+use Rattle.madi_read.specs.Reader.{isSync}
 
 -- a row that is these channels in this order and so many syncs, one unit after the other
 pub data Units : Row → List ℕ → ℕ → Type 0 where

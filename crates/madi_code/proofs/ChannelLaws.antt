@@ -8,7 +8,7 @@ use lib.ListN.{length, getD}
 use mathlib.Core.Bool.{false}
 use mathlib.Core.Logic.{⊎-elim}
 use Rattle.bits.proofs.Tests.{order}
-use lib.Pow.{high, low, shr-shr, pow-add, pow-mono, mod-pow-add, shl-exact, pow-pos}
+use lib.Pow.{high, low, shr-shr, pow-add, pow-mono, mod-pow-add, shl-exact, pow-pos, field, mod-mod-pow}
 use Rattle.bits.specs.Row.{Row, odd, bits, bigBits, big}
 use Rattle.bits.specs.Window.{part, window}
 use Rattle.bits.specs.Pack.{chain, pack}
@@ -16,21 +16,21 @@ use Rattle.bits.proofs.Rows.{length-bits, length-bigBits, getD-bits, big-bigBit
 use Rattle.bits.proofs.Windows.{part-same, part-all, window-split, window-part, window-lt}
 use Rattle.bits.proofs.Packing.{length-pack, getD-pack}
 use Rattle.bits.proofs.Chains.{length-chained, part-chained, windows-same}
-use Rattle.madi_code.specs.Groups.{code, sync, groupOf}
+use Rattle.madi_code.specs.Groups.{groupCode, sync, groupOf}
 use Rattle.madi_code.specs.Channels.{channelRow, onData, channelFrom, channelOf}
 use Rattle.madi_code.specs.declared.Group.{Group}
 use Rattle.madi_code.specs.declared.Group.the-variants.{Data, Nothing}
-use Rattle.madi_code.specs.declared.Channel.the-variants.{Word, Broken}
+use Rattle.madi_code.specs.declared.ChannelBits.the-variants.{Word, Broken}
 use Rattle.madi_code.proofs.GroupLaws.{code-lt, code-no-sync, place-lt, group-data, group-only}
 
 -- ---- sent
 
 abbrev five : ℕ → Row
-five d = bigBits 5 (code d)
+five d = bigBits 5 (groupCode d)
 
 pub length-channel : (w : ℕ) → length (channelRow w) ≡ 40
 unfolding channelRow
-length-channel w = length-chained five 5 (λ d. length-bigBits 5 (code d)) (pack big 4 8 (bits 32 w)) ∙ rw (length-pack big 4 8 (bits 32 w))
+length-channel w = length-chained five 5 (λ d. length-bigBits 5 (groupCode d)) (pack big 4 8 (bits 32 w)) ∙ rw (length-pack big 4 8 (bits 32 w))
 
 part-bits : (w g : ℕ) → g < 8 → part (bits 32 w) (g * 4) 4 ≡ bits 4 (w / 2 ^ (4 * g))
 part-bits w g h =
@@ -43,22 +43,22 @@ part-bits w g h =
         ∙ sym (rw (zero-add k) (getD-bits 4 (w / 2 ^ (4 * g)) k l))
 
 -- group g of a channel
-pub group-sent : (w g : ℕ) → g < 8 → window (channelRow w) (5 * g) 5 ≡ code (big (bits 4 (w / 2 ^ (4 * g))))
+pub group-sent : (w g : ℕ) → g < 8 → window (channelRow w) (5 * g) 5 ≡ groupCode (big (bits 4 (w / 2 ^ (4 * g))))
 unfolding channelRow window
 group-sent w g h =
     let fours : List ℕ = pack big 4 8 (bits 32 w) in
     let x : ℕ = big (bits 4 (w / 2 ^ (4 * g))) in
     let at : getD fours g 0 ≡ x = getD-pack big 4 8 (bits 32 w) g h ∙ ap big (part-bits w g h) in
     ap (λ (p : ℕ). big (part (chain five fours) p 5)) (mul-comm 5 g)
-    ∙ ap big (part-chained five 5 (λ d. length-bigBits 5 (code d)) fours g (omega (arith, length-pack big 4 8 (bits 32 w))))
-    ∙ ap (λ (d : ℕ). big (five d)) at ∙ big-bigBits 5 (code x) ∙ mod-eq-of-lt (code-lt x (place-lt (w / 2 ^ (4 * g))))
+    ∙ ap big (part-chained five 5 (λ d. length-bigBits 5 (groupCode d)) fours g (omega (arith, length-pack big 4 8 (bits 32 w))))
+    ∙ ap (λ (d : ℕ). big (five d)) at ∙ big-bigBits 5 (groupCode x) ∙ mod-eq-of-lt (code-lt x (place-lt (w / 2 ^ (4 * g))))
 
 -- the groups up to g, and one more
 pub groups-next : (w g : ℕ) → g < 8
-    → window (channelRow w) 0 (5 * g) * 32 + code (big (bits 4 (w / 2 ^ (4 * g) % 16))) ≡ window (channelRow w) 0 (5 * (g + 1))
+    → window (channelRow w) 0 (5 * g) * 32 + groupCode (big (bits 4 (w / 2 ^ (4 * g) % 16))) ≡ window (channelRow w) 0 (5 * (g + 1))
 groups-next w g h =
     let n : 5 * (g + 1) ≡ 5 * g + 5 = omega arith in
-    ap (λ (r : Row). window (channelRow w) 0 (5 * g) * 32 + code (big r)) (bits-mod 4 (w / 2 ^ (4 * g)))
+    ap (λ (r : Row). window (channelRow w) 0 (5 * g) * 32 + groupCode (big r)) (bits-mod 4 (w / 2 ^ (4 * g)))
     ∙ sym (ap (window (channelRow w) 0) n ∙ window-split (channelRow w) 0 (5 * g) 5 ∙ rw (zero-add, group-sent w g h))
 
 pub groups-all : (w : ℕ) → window (channelRow w) 0 40 ≡ big (channelRow w)
@@ -68,14 +68,16 @@ groups-all w = ap big (part-all (channelRow w) 40 (length-channel w))
 -- ---- received
 
 -- group g of 40 bits
-pub group-inside : (v g : ℕ) → g < 8 → v % 2 ^ 40 / 2 ^ (35 - 5 * g) % 32 ≡ window (bigBits 40 v) (5 * g) 5
+pub group-inside : (v g : ℕ) → g < 8 → v / 2 ^ (35 - 5 * g) % 32 ≡ window (bigBits 40 v) (5 * g) 5
 unfolding window
 group-inside v g h =
     let r : Row = bigBits 40 v in
-    let n : 5 * g + 5 + (35 - 5 * g) ≡ 40 = omega arith in
-    let whole : window r 0 (5 * g + 5 + (35 - 5 * g)) ≡ v % 2 ^ 40 =
-    ap (window r 0) n ∙ ap big (part-all r 40 (length-bigBits 40 v)) ∙ big-bigBits 40 v in
-    ap (λ (x : ℕ). x / 2 ^ (35 - 5 * g) % 32) (sym whole) ∙ window-part r 0 (5 * g) 5 (35 - 5 * g) ∙ ap (λ (p : ℕ). window r p 5) (zero-add (5 * g))
+    let s : ℕ = 35 - 5 * g in
+    let n : 5 * g + 5 + s ≡ 40 = omega arith in
+    let whole : v % 2 ^ (5 * g + 5 + s) ≡ window r 0 (5 * g + 5 + s) =
+    ap (λ (k : ℕ). v % 2 ^ k) n ∙ sym (ap (window r 0) n ∙ ap big (part-all r 40 (length-bigBits 40 v)) ∙ big-bigBits 40 v) in
+    sym (mod-mod-pow (v / 2 ^ s) (5 * g) 5) ∙ ap (λ (x : ℕ). x % 32) (sym (field v (5 * g + 5) s) ∙ ap (λ (x : ℕ). x / 2 ^ s) whole)
+    ∙ window-part r 0 (5 * g) 5 s ∙ ap (λ (at : ℕ). window r at 5) (zero-add (5 * g))
 
 module _ (r : Row) (g w : ℕ) (h : g < 8) where
   left : 8 - g ≡ suc (8 - (g + 1))
@@ -116,7 +118,7 @@ module _ (w : ℕ) (hw : w < 2 ^ 32) where
 
   meant-four : (g : ℕ) → g < 8 → groupOf (window (channelRow w) (5 * g) 5) ≡ Data (w / 2 ^ (4 * g) % 16)
   meant-four g h =
-      ap groupOf (group-sent w g h ∙ ap (λ (r : Row). code (big r)) (sym (bits-mod 4 (w / 2 ^ (4 * g)))))
+      ap groupOf (group-sent w g h ∙ ap (λ (r : Row). groupCode (big r)) (sym (bits-mod 4 (w / 2 ^ (4 * g)))))
       ∙ group-data (w / 2 ^ (4 * g) % 16) (omega arith)
 
   from-group : (n g : ℕ) → n + g ≡ 8 → channelFrom (channelRow w) n g (w % 2 ^ (4 * g)) ≡ Word w
@@ -172,7 +174,7 @@ module _ (r : Row) (w : ℕ) where
           let rest = on (g + 1) (v + x * 2 ^ (4 * g)) (omega arith) (word-grows v x g (only .0) hv) q in
           let parts = two-parts w v x g hv (only .0) (rest .low) in
           let here : window r (5 * g) 5 ≡ window (channelRow w) (5 * g) 5 =
-          only .1 ∙ ap (λ (y : ℕ). code (big (bits 4 y))) (sym (parts .1)) ∙ ap (λ (s : Row). code (big s)) (bits-mod 4 (w / 2 ^ (4 * g)))
+          only .1 ∙ ap (λ (y : ℕ). groupCode (big (bits 4 y))) (sym (parts .1)) ∙ ap (λ (s : Row). groupCode (big s)) (bits-mod 4 (w / 2 ^ (4 * g)))
           ∙ sym (group-sent w g (omega arith)) in
           record {
             low = parts .0;
@@ -208,7 +210,7 @@ broken-lt r g e = from 8 0 0 refl e
 pub channel-no-sync : (w : ℕ) → window (channelRow w) 0 10 ≡ sync → ⊥
 channel-no-sync w e =
     let x : ℕ = big (bits 4 (w / 2 ^ (4 * 0))) in
-    let a : window (channelRow w) 0 5 ≡ code x = group-sent w 0 (omega arith) in
+    let a : window (channelRow w) 0 5 ≡ groupCode x = group-sent w 0 (omega arith) in
     let s : window (channelRow w) 0 10 ≡ window (channelRow w) 0 5 * 32 + window (channelRow w) (0 + 5) 5 = window-split (channelRow w) 0 5 5 in
     let b : window (channelRow w) (0 + 5) 5 < 32 = window-lt (channelRow w) (0 + 5) 5 in
     code-no-sync x (place-lt (w / 2 ^ (4 * 0))) (sym a ∙ omega arith)

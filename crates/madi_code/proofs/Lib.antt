@@ -1,2 +1,4 @@
+pub mod FrameLaws
 pub mod GroupLaws
 pub mod ChannelLaws
+pub mod TableLaws

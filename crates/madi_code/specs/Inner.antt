@@ -1,10 +1,64 @@
--- What a five-bit group means, as the reader's table has it. Assumes nothing.
-use Prim.Native.Nat.{ℕ}
-use lib.Dec.{eqb}
-use Rattle.bits.specs.Pick.{first}
-use Rattle.bits.specs.Row.{bigBits, little}
-use Rattle.madi_code.specs.Groups.{code}
+-- The tables that a caller lends, and what functions give that go by them. Assumes nothing.
+use Prim.Native.Nat.{ℕ, _+_, _*_, _/_, _%_, _^_, _<_}
+use mathlib.Core.Path.{_≡_}
+use mathlib.Core.List.{List}
+use lib.Dec.{eqb, ltb}
+use lib.ListN.{getD}
+use Rattle.bits.specs.Pick.{pick, first}
+use Rattle.bits.specs.Row.{bits, bigBits, little, big}
+use Rattle.bits.specs.Listed.{listed}
+use Rattle.madi_code.specs.Groups.{groupCode}
+use Rattle.madi_code.specs.Channels.{channelOf}
+use Rattle.madi_code.specs.declared.ChannelBits.{ChannelBits}
+use Rattle.madi_code.specs.declared.ChannelBits.the-variants.{Word}
 
--- what a five-bit group means as a number: four bits of a word, or 16
+-- ---- sent
+
+-- a table of 16 that has, for four bits as they stand in a word, the group that they become
+abbrev pub Sends : List ℕ → Type 0
+Sends t = (x : ℕ) → x < 16 → getD t x 0 ≡ groupCode (big (bits 4 x))
+
+-- it is this one
+unfoldable pub groupTable : List ℕ
+groupTable = listed 0 16 (λ x. groupCode (big (bits 4 x)))
+
+-- forty bits, from what a table of 16 says of the eight fours of a word
+unfoldable pub eightGroups : List ℕ → ℕ → ℕ
+eightGroups t w =
+    getD t (w % 16) 0 * 2 ^ 35 + getD t (w / 2 ^ 4 % 16) 0 * 2 ^ 30 + getD t (w / 2 ^ 8 % 16) 0 * 2 ^ 25 + getD t (w / 2 ^ 12 % 16) 0 * 2 ^ 20
+    + getD t (w / 2 ^ 16 % 16) 0 * 2 ^ 15 + getD t (w / 2 ^ 20 % 16) 0 * 2 ^ 10 + getD t (w / 2 ^ 24 % 16) 0 * 2 ^ 5 + getD t (w / 2 ^ 28 % 16) 0
+
+-- ---- received
+
+-- what a five-bit group means as a number: four bits of a word; 128, which is more than eight fours together, where
+-- it is no data group
 unfoldable pub meant : ℕ → ℕ
-meant g = first (λ d. eqb (code d) g) 0 16 (λ d. little (bigBits 4 d)) 16
+meant g = first (λ d. eqb (groupCode d) g) 0 16 (λ d. little (bigBits 4 d)) 128
+
+-- a table of 32 that has the meanings
+abbrev pub Means : List ℕ → Type 0
+Means t = (g : ℕ) → g < 32 → getD t g 0 ≡ meant g
+
+-- it is this one
+unfoldable pub meaningTable : List ℕ
+meaningTable = listed 0 32 meant
+
+-- what a table of 32 says of the eight groups of forty bits, added up as it stands
+unfoldable pub eightSum : List ℕ → ℕ → ℕ
+eightSum t v =
+    getD t (v / 2 ^ 35 % 32) 0 + getD t (v / 2 ^ 30 % 32) 0 + getD t (v / 2 ^ 25 % 32) 0 + getD t (v / 2 ^ 20 % 32) 0 + getD t (v / 2 ^ 15 % 32) 0
+    + getD t (v / 2 ^ 10 % 32) 0 + getD t (v / 2 ^ 5 % 32) 0 + getD t (v % 32) 0
+
+-- and as the fours of a word
+unfoldable pub eightFours : List ℕ → ℕ → ℕ
+eightFours t v =
+    getD t (v / 2 ^ 35 % 32) 0 + getD t (v / 2 ^ 30 % 32) 0 * 2 ^ 4 + getD t (v / 2 ^ 25 % 32) 0 * 2 ^ 8 + getD t (v / 2 ^ 20 % 32) 0 * 2 ^ 12
+    + getD t (v / 2 ^ 15 % 32) 0 * 2 ^ 16 + getD t (v / 2 ^ 10 % 32) 0 * 2 ^ 20 + getD t (v / 2 ^ 5 % 32) 0 * 2 ^ 24 + getD t (v % 32) 0 * 2 ^ 28
+
+-- the word where all are data groups, else 2 ^ 32
+unfoldable pub wordBy : List ℕ → ℕ → ℕ
+wordBy t v = pick (ltb (eightSum t v) 128) (eightFours t v) (2 ^ 32)
+
+-- a channel by that word, and else by its groups
+unfoldable pub channelBy : List ℕ → ℕ → ChannelBits
+channelBy t v = pick (ltb (wordBy t v) (2 ^ 32)) (Word (wordBy t v)) (channelOf (bigBits 40 v))

@@ -1,3 +1,4 @@
+pub mod Frame
 pub mod Groups
 pub mod Channels
 pub mod Inner

@@ -1,15 +1,21 @@
-// MADI's five-bit groups, and a channel's word as the 40 bits that send it.
+// MADI's channel counts and five-bit groups, and a channel's word as the 40 bits that send it.
+// Reader and writer lay a table of groups out once and lend it for all channels of a frame.
 ghost use mathlib.Core.Path.{_≡_};
 ghost use Prim.Native.Nat.{_<_};
 ghost use Rattle.bits.specs.Row.{bigBits, bits, big};
-ghost use Rattle.madi_code.specs.Groups.{code, groupOf};
+ghost use Rattle.madi_code.specs.Frame.{counted};
+ghost use Rattle.madi_code.specs.Groups.{groupCode, groupOf};
 ghost use Rattle.madi_code.specs.Channels.{channelRow, channelOf};
+ghost use Rattle.madi_code.specs.Inner.{eightGroups, wordBy, channelBy, groupTable, meaningTable};
 
 mod tables;
 
 use tables::GROUPS;
 use tables::MEANT;
 use tables::TURNED;
+
+// The default sync.
+pub const SYNC: u64 = 0b11000_10001;
 
 // What a five-bit group means.
 pub enum Group {
@@ -19,11 +25,84 @@ pub enum Group {
 }
 
 // What 40 bits are as a channel: its word, or the first of the groups 0 to 7 that is no data group.
-pub enum Channel {
+pub enum ChannelBits {
     Word(u32),
     Broken(u32),
 }
 
+// Whether a frame can have so many channels.
+pub fn is_counted(channels: u32) -> bool
+    ensures { λ r. ⌜ r ≡ counted channels ⌝ }
+{
+    if channels == 56 {
+        return true;
+    }
+    channels == 64
+}
+
+fn wide(x: u8) -> u64
+    ensures { λ r. ⌜ (r ≡ x) × (r < 256) ⌝ }
+{
+    x as u64
+}
+
+// ---- sent
+
+// The five-bit group of four bits that stand in a word.
+fn group_of(x: usize) -> u8
+    requires { ⌜ x < 16 ⌝ }
+    ensures { λ r. ⌜ r ≡ groupCode (big (bits 4 x)) ⌝ }
+{
+    let d = TURNED[x];
+    GROUPS[d as usize]
+}
+
+// The table of groups, in the order of the four bits that stand in a word.
+pub fn groups() -> [u8; 16]
+    ensures { λ r. ⌜ r ≡ groupTable ⌝ }
+{
+    let mut table = [0u8; 16];
+    let mut x: usize = 0;
+    while x < 16 {
+        table[x] = group_of(x);
+        x += 1;
+    }
+    table
+}
+
+// The 40 bits of a channel's word by a table of groups, the earliest highest.
+pub fn bits_by(table: &[u8; 16], w: u32) -> u64
+    ensures { λ r. ⌜ r ≡ eightGroups (now (table .entry)) w ⌝ }
+{
+    let a = wide(table[(w % 16) as usize]);
+    let b = wide(table[((w >> 4) % 16) as usize]);
+    let c = wide(table[((w >> 8) % 16) as usize]);
+    let d = wide(table[((w >> 12) % 16) as usize]);
+    let e = wide(table[((w >> 16) % 16) as usize]);
+    let f = wide(table[((w >> 20) % 16) as usize]);
+    let g = wide(table[((w >> 24) % 16) as usize]);
+    let h = wide(table[((w >> 28) % 16) as usize]);
+    a * 0x8_0000_0000
+        + b * 0x4000_0000
+        + c * 0x200_0000
+        + d * 0x10_0000
+        + e * 0x8000
+        + f * 0x400
+        + g * 0x20
+        + h
+}
+
+// The same of one channel alone.
+pub fn channel_bits(w: u32) -> u64
+    ensures { λ r. ⌜ r ≡ big (channelRow w) ⌝ }
+{
+    let table = groups();
+    bits_by(&table, w)
+}
+
+// ---- received
+
+// What a five-bit group means.
 pub fn decode_group(g: u8) -> Group
     ensures { λ r. ⌜ r ≡ groupOf g ⌝ }
 {
@@ -38,46 +117,68 @@ pub fn decode_group(g: u8) -> Group
     }
 }
 
-// The five-bit group of four bits that stand in a word.
-fn group_of(x: u32) -> u64
-    requires { ⌜ x < 16 ⌝ }
-    ensures { λ r. ⌜ r ≡ code (big (bits 4 x)) ⌝ }
+// The table of meanings.
+pub fn meanings() -> [u8; 32]
+    ensures { λ r. ⌜ r ≡ meaningTable ⌝ }
 {
-    let d = TURNED[x as usize];
-    GROUPS[d as usize] as u64
+    MEANT
 }
 
-// The 40 bits of a channel's word, the earliest highest.
-pub fn channel_bits(w: u32) -> u64
-    ensures { λ r. ⌜ r ≡ big (channelRow w) ⌝ }
+// The word of the lowest 40 bits of v by a table of meanings, the earliest bit highest; 2 ^ 32 where they are not all
+// data groups.
+pub fn word_by(table: &[u8; 32], v: u64) -> u64
+    ensures { λ r. ⌜ r ≡ wordBy (now (table .entry)) v ⌝ }
 {
-    let mut v: u64 = 0;
-    let mut g: usize = 0;
-    while g < 8 {
-        v = v * 32 + group_of((w >> (4 * g)) % 16);
-        g += 1;
+    let a = wide(table[((v >> 35) % 32) as usize]);
+    let b = wide(table[((v >> 30) % 32) as usize]);
+    let c = wide(table[((v >> 25) % 32) as usize]);
+    let d = wide(table[((v >> 20) % 32) as usize]);
+    let e = wide(table[((v >> 15) % 32) as usize]);
+    let f = wide(table[((v >> 10) % 32) as usize]);
+    let g = wide(table[((v >> 5) % 32) as usize]);
+    let h = wide(table[(v % 32) as usize]);
+    if a + b + c + d + e + f + g + h < 128 {
+        return a
+            + b * 0x10
+            + c * 0x100
+            + d * 0x1000
+            + e * 0x1_0000
+            + f * 0x10_0000
+            + g * 0x100_0000
+            + h * 0x1000_0000;
     }
-    v
+    0x1_0000_0000
 }
 
-// The channel of the lowest 40 bits of v, the earliest highest.
-pub fn channel_of(v: u64) -> Channel
+// The channel of the lowest 40 bits of v, group by group.
+pub fn channel_of(v: u64) -> ChannelBits
     ensures { λ r. ⌜ r ≡ channelOf (bigBits 40 v) ⌝ }
 {
-    let x = v % 0x100_0000_0000;
     let mut w: u32 = 0;
     let mut g: u32 = 0;
     while g < 8 {
-        let d = decode_group(((x >> (35 - 5 * g)) % 32) as u8);
+        let d = decode_group(((v >> (35 - 5 * g)) % 32) as u8);
         match d {
             Group::Data(y) => {
                 w = w + ((y as u32) << (4 * g));
             }
             Group::Nothing => {
-                return Channel::Broken(g);
+                return ChannelBits::Broken(g);
             }
         }
         g += 1;
     }
-    Channel::Word(w)
+    ChannelBits::Word(w)
+}
+
+// The channel of the lowest 40 bits of v by a table of meanings; group by group only where one of them is no data
+// group.
+pub fn channel_by(table: &[u8; 32], v: u64) -> ChannelBits
+    ensures { λ r. ⌜ r ≡ channelBy (now (table .entry)) v ⌝ }
+{
+    let w = word_by(table, v);
+    if w < 0x1_0000_0000 {
+        return ChannelBits::Word(w as u32);
+    }
+    channel_of(v)
 }

@@ -12,7 +12,7 @@ use Rattle.bits.proofs.Windows.{length-part, window-high}
 use Rattle.bits.proofs.Packing.{length-chain, highest}
 use Rattle.line.specs.Nrzi.{changes}
 use Rattle.line.proofs.NrziLaws.{length-changes, changes-first}
-use Rattle.madi_piece.specs.Reader.{carried}
+use Rattle.madi_read.specs.Reader.{carried}
 
 pub length-carried : (level bits : ℕ) (line : List ℕ) → length (carried level bits line) ≡ bits
 unfolding carried

@@ -1,4 +1,8 @@
 pub mod Carrying
+pub mod Lines
 pub mod Walking
 pub mod Onward
-pub mod Admitting
+pub mod Copying
+pub mod Accepting
+pub mod Said
+pub mod Residue

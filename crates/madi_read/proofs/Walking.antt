@@ -1,8 +1,10 @@
--- Laws of reading boundary by boundary: what a piece says of the room that it was found in, and one step of reading. Assumes nothing.
-use mathlib.Core.Path.{_≡_, refl}
+-- Laws of reading boundary by boundary: what a piece says of the room that it was found in, and one step of reading.
+-- Assumes nothing.
+use mathlib.Core.Path.{_≡_, refl, sym, subst}
 use mathlib.Core.Bool.{true, _&&_}
-use mathlib.Core.List.{List}
-use Prim.Native.Nat.{ℕ, suc, _+_, _-_, _≤_, _<_}
+use mathlib.Core.List.{List, []}
+use Prim.Native.Nat.{ℕ, zero, suc, _+_, _-_, _≤_, _<_}
+use native.Mathlib.Nat.{sub-zero}
 use native.Mathlib.Omega.{arith}
 use borrow.Author.Tests.{ltb-true, ltb-false, leb-true, eqb-true, eqb-false}
 use lib.Dec.{eqb, ltb, leb}
@@ -11,55 +13,96 @@ use Rattle.bits.specs.Pick.{pick}
 use Rattle.bits.specs.Row.{Row}
 use Rattle.bits.specs.Window.{part, window}
 use Rattle.bits.proofs.Tests.{pick-cases, both-true}
+use Rattle.answer.specs.Answer.{Answer.accepted}
+use Rattle.answer.proofs.Chains.{not-both}
+use Rattle.subframe.specs.Body.{evenBody}
 use Rattle.madi_code.specs.Groups.{sync}
 use Rattle.madi_code.specs.Channels.{channelOf}
-use Rattle.madi_frame.specs.Frame.{evenBody, boundary}
-use Rattle.madi_code.specs.declared.Channel.{Channel}
-use Rattle.madi_code.specs.declared.Channel.the-variants.{Word, Broken}
-use Rattle.madi_piece.specs.Reader.{firstRight, activeRight, slotAt, isSync, pieceAt, next, readFrom}
-use Rattle.madi_piece.specs.declared.Piece.{Piece}
-use Rattle.madi_piece.specs.declared.Piece.the-variants.{End, Sync, Slot, Bad}
+use Rattle.madi_code.specs.declared.ChannelBits.{ChannelBits}
+use Rattle.madi_code.specs.declared.ChannelBits.the-variants.{Word, Broken}
+use Rattle.madi_read.specs.Reader.{Frame, atStart, placeOf, withSync, withChannel, firstRight, activeRight, channelAt, isSync}
+use Rattle.madi_read.specs.Reader.{pieceAt, onward, readOn, rowRead}
+use Rattle.madi_read.specs.Inner.{sofar}
+use Rattle.madi_read.specs.declared.Piece.{Piece}
+use Rattle.madi_read.specs.declared.Piece.the-variants.{End, Sync, Channel}
+use Rattle.madi_read.specs.declared.Piece.the-variants.{Refused as NoPiece}
 
 -- what each piece says of where it stands
-abbrev pub Room : Row → ℕ → ℕ → ℕ → ℕ → Piece → Type 0
-Room r channels n active s End = (n ≡ channels) × (0 < s) × (boundary n s ≡ length r)
-Room r channels n active s Sync = (s < 255) × (boundary n s + 10 ≤ length r) × (window r (boundary n s) 10 ≡ sync)
-Room r channels n active s (Slot w) =
-    (n ≡ channels → ⊥) × (boundary n s + 40 ≤ length r) × (channelOf (part r (boundary n s) 40) ≡ Word w)
-    × (firstRight n w ≡ true) × (activeRight n active w ≡ true) × (evenBody w ≡ true)
-Room r channels n active s (Bad number place) = Unit {0}
+abbrev pub Room : Row → ℕ → Frame → Piece → Type 0
+Room r channels f End = (f .channels ≡ channels) × (0 < f .syncs) × (placeOf f ≡ length r)
+Room r channels f Sync = (f .syncs < 255) × (placeOf f + 10 ≤ length r) × (window r (placeOf f) 10 ≡ sync)
+Room r channels f (Channel w) =
+    (f .channels ≡ channels → ⊥) × (placeOf f + 40 ≤ length r) × (channelOf (part r (placeOf f) 40) ≡ Word w)
+    × (firstRight (f .channels) w ≡ true) × (activeRight (f .channels) (f .active) w ≡ true) × (evenBody w ≡ true)
+Room r channels f (NoPiece number place) = Unit {0}
 
-module _ (r : Row) (channels n active s : ℕ) where
-  slot-room : (n ≡ channels → ⊥) → boundary n s + 40 ≤ length r → (c : Channel) → channelOf (part r (boundary n s) 40) ≡ c
-      → Room r channels n active s (slotAt (boundary n s) n active c)
-  slot-room apart fits (Broken g) e = tt
-  slot-room apart fits (Word w) e =
-      pick-cases (Room r channels n active s) (firstRight n w && activeRight n active w) (pick (evenBody w) (Slot w) (Bad 9 n)) (Bad 12 n)
-      (λ h. pick-cases (Room r channels n active s) (evenBody w) (Slot w) (Bad 9 n)
-      (λ k. let b = both-true (firstRight n w) (activeRight n active w) h in (apart, fits, e, b .0, b .1, k)) (λ k. tt)) (λ h. tt)
+module _ (r : Row) (channels : ℕ) (f : Frame) where
+  channel-room : (f .channels ≡ channels → ⊥) → placeOf f + 40 ≤ length r → (c : ChannelBits) → channelOf (part r (placeOf f) 40) ≡ c
+      → Room r channels f (channelAt (placeOf f) (f .channels) (f .active) c)
+  channel-room apart fits (Broken g) e = tt
+  channel-room apart fits (Word w) e =
+      let n = f .channels in
+      pick-cases (Room r channels f) (firstRight n w && activeRight n (f .active) w) (pick (evenBody w) (Channel w) (NoPiece 9 n)) (NoPiece 12 n)
+      (λ h. pick-cases (Room r channels f) (evenBody w) (Channel w) (NoPiece 9 n)
+      (λ k. let b = both-true (firstRight n w) (activeRight n (f .active) w) h in (apart, fits, e, b .0, b .1, k)) (λ k. tt)) (λ h. tt)
 
-  pub room : Room r channels n active s (pieceAt r channels n active s)
+  pub room : Room r channels f (pieceAt r channels f)
   unfolding pieceAt
   room =
-      pick-cases R (eqb (boundary n s) (length r)) _ _
-      (λ e. pick-cases R (eqb n channels && ltb 0 s) End (Bad 10 (boundary n s))
-      (λ h. let b = both-true (eqb n channels) (ltb 0 s) h in (eqb-true n channels (b .0), ltb-true 0 s (b .1), eqb-true (boundary n s) (length r) e)) (λ h. tt))
-      (λ e. pick-cases R (isSync r (boundary n s)) _ _
-      (λ h. pick-cases R (ltb s 255) Sync (Bad 10 (boundary n s))
-      (λ k. let b = both-true (leb (boundary n s + 10) (length r)) (eqb (window r (boundary n s) 10) sync) h in
-      (ltb-true s 255 k, leb-true (boundary n s + 10) (length r) (b .0), eqb-true (window r (boundary n s) 10) sync (b .1))) (λ k. tt))
-      (λ h. pick-cases R (ltb (length r) (boundary n s + 40)) _ _ (λ k. tt)
-      (λ k. pick-cases R (eqb n channels) _ _ (λ m. tt)
-      (λ m. slot-room (eqb-false n channels m) (ltb-false (length r) (boundary n s + 40) k) (channelOf (part r (boundary n s) 40)) refl))))
+      pick-cases R (eqb (placeOf f) (length r)) _ _
+      (λ e. pick-cases R (eqb (f .channels) channels && ltb 0 (f .syncs)) End (NoPiece 10 (placeOf f))
+      (λ h. let b = both-true (eqb (f .channels) channels) (ltb 0 (f .syncs)) h in
+      (eqb-true (f .channels) channels (b .0), ltb-true 0 (f .syncs) (b .1), eqb-true (placeOf f) (length r) e)) (λ h. tt))
+      (λ e. pick-cases R (isSync r (placeOf f)) _ _
+      (λ h. pick-cases R (ltb (f .syncs) 255) Sync (NoPiece 10 (placeOf f))
+      (λ k. let b = both-true (leb (placeOf f + 10) (length r)) (eqb (window r (placeOf f) 10) sync) h in
+      (ltb-true (f .syncs) 255 k, leb-true (placeOf f + 10) (length r) (b .0), eqb-true (window r (placeOf f) 10) sync (b .1))) (λ k. tt))
+      (λ h. pick-cases R (ltb (length r) (placeOf f + 40)) _ _ (λ k. tt)
+      (λ k. pick-cases R (eqb (f .channels) channels) _ _ (λ m. tt)
+      (λ m. channel-room (eqb-false (f .channels) channels m) (ltb-false (length r) (placeOf f + 40) k) (channelOf (part r (placeOf f) 40)) refl))))
     where
       R : Piece → Type 0
-      R = Room r channels n active s
+      R = Room r channels f
 
   -- one step of reading
-  pub read-step : n ≤ channels → s ≤ 255 → (words : List ℕ) (p : Piece) → pieceAt r channels n active s ≡ p
-      → readFrom r channels (channels + 256 - (n + s)) n active s words
-      ≡ next (readFrom r channels (channels + 256 - (n + s + 1))) p n active s words
-  unfolding readFrom
-  read-step hn hs words p e =
-      let left : channels + 256 - (n + s) ≡ suc (channels + 256 - (n + s + 1)) = omega arith in
+  pub read-step : f .channels ≤ channels → f .syncs ≤ 255 → (p : Piece) → pieceAt r channels f ≡ p
+      → readOn r channels (channels + 256 - (f .channels + f .syncs)) f
+      ≡ onward (readOn r channels (channels + 256 - (f .channels + f .syncs + 1))) f p
+  unfolding readOn
+  read-step hn hs p e =
+      let left : channels + 256 - (f .channels + f .syncs) ≡ suc (channels + 256 - (f .channels + f .syncs + 1)) = omega arith in
       rw (left, e)
+
+-- what stands at a boundary does not depend on the words before it
+pub piece-any : (r : Row) (channels n active s : ℕ) (words : List ℕ) → pieceAt r channels (sofar n active s words) ≡ pieceAt r channels (sofar n active s [])
+unfolding pieceAt
+piece-any r channels n active s words = refl
+
+-- ---- a frame that is read, from its end back to its start
+
+module _ {ℓ} (r : Row) (channels : ℕ) (g : Frame) (P : Frame → Type ℓ)
+    (at-end : Room r channels g End → P g)
+    (sync-before : (f : Frame) → Room r channels f Sync → P (withSync f) → P f)
+    (channel-before : (f : Frame) (w : ℕ) → Room r channels f (Channel w) → P (withChannel w f) → P f) where
+  backward : (k : ℕ) (f : Frame) → readOn r channels k f ≡ accepted g → P f
+  unfolding readOn
+  backward zero f e = not-both e
+  backward (suc k) f e = by (pieceAt r channels f) (room r channels f) (backward k) e
+    where
+      by : (p : Piece) → Room r channels f p → ((f : Frame) → readOn r channels k f ≡ accepted g → P f)
+          → onward (readOn r channels k) f p ≡ accepted g → P f
+      by End q on e =
+          let same : f ≡ g = cc in
+          subst P (sym same) (at-end (subst (λ (x : Frame). Room r channels x End) same q))
+      by Sync q on e = sync-before f q (on (withSync f) e)
+      by (Channel w) q on e = channel-before f w q (on (withChannel w f) e)
+      by (NoPiece number place) q on e = not-both e
+
+  pub read-back : rowRead r channels ≡ accepted g → P atStart
+  unfolding rowRead
+  read-back e = backward (channels + 256) atStart e
+
+-- reading begins before the first unit
+pub from-start : (r : Row) (channels : ℕ) → rowRead r channels ≡ readOn r channels (channels + 256 - (0 + 0)) atStart
+unfolding rowRead
+from-start r channels = rw sub-zero

@@ -1,4 +1,5 @@
--- A frame's octets in blocks of five: the levels of a block, the octets of its levels, what is left after the last whole block. Assumes nothing.
+-- A frame's octets in blocks of five: the levels of a block, the octets of its levels, what is left after the last
+-- whole block. Assumes nothing.
 use mathlib.Core.Path.{_≡_, sym, ap, ap₂, _∙_}
 use mathlib.Core.List.{List, _∷_}
 use Prim.Native.Nat.{ℕ, suc, _+_, _*_, _-_, _/_, _%_, _^_, _≤_, _<_}
@@ -15,7 +16,7 @@ use Rattle.bits.proofs.Windows.{window-lt, window-split, window-low, window-ins
 use Rattle.bits.proofs.Packing.{length-pack, getD-pack}
 use Rattle.line.specs.Nrzi.{levels}
 use Rattle.line.proofs.NrziLaws.{length-levels, levels-window, before-later, before-first}
-use Rattle.madi_frame.specs.Frame.{boundary}
+use Rattle.madi_code.specs.Frame.{boundary}
 use Rattle.madi_write.specs.Writer.{frameRow, needed, frameOctets}
 use Rattle.madi_write.specs.Inner.{syncsNumber, blockOf, Levels}
 use Rattle.madi_write.proofs.Frames.{length-frame, frame-syncs, block-window}

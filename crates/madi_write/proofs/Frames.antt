@@ -10,19 +10,20 @@ use lib.Dec.{eqb, ltb}
 use lib.ListN.{length, getD, replicate, length-append, length-replicate, length-map, getD-replicate, List·getD-append}
 use lib.Seq.{getD-append-add}
 use Rattle.bits.specs.Pick.{pick}
-use Rattle.bits.specs.Row.{Row, bigBits, big}
+use Rattle.bits.specs.Row.{Row, odd, bigBits, big}
 use Rattle.bits.specs.Window.{part, window}
-use Rattle.bits.specs.Pack.{chain}
+use Rattle.bits.specs.Pack.{chain, octets}
 use Rattle.bits.proofs.Tests.{order}
 use Rattle.bits.proofs.Rows.{length-bigBits, big-bigBits}
 use Rattle.bits.proofs.Windows.{window-split}
 use Rattle.bits.proofs.Every.{agree}
 use Rattle.bits.proofs.Chains.{part-first, part-second, length-chained, part-chained}
+use Rattle.line.specs.Nrzi.{levels}
 use Rattle.madi_code.specs.Groups.{sync}
 use Rattle.madi_code.specs.Channels.{channelRow}
-use Rattle.madi_frame.specs.Frame.{boundary}
+use Rattle.madi_code.specs.Frame.{boundary}
 use Rattle.madi_code.proofs.ChannelLaws.{length-channel}
-use Rattle.madi_write.specs.Writer.{marked, channelWords, frameRow}
+use Rattle.madi_write.specs.Writer.{marked, channelWords, frameRow, needed, frameOctets}
 use Rattle.madi_write.specs.Inner.{sentWord, syncsNumber, blockOf}
 
 -- ---- the channels' words
@@ -65,6 +66,23 @@ word-at channels words b hb = ⊎-elim idle active (order (length words) b)
         ∙ getD-append-add (marked words) (replicate (channels - length words) 0) (b - length words) 0
         ∙ getD-replicate (channels - length words) (b - length words) 0 0 (omega arith) ∙ rw (le-ltb b (length words) h)
 
+-- the word of an active channel, and of one that is not
+pub sent-active : (words : List ℕ) (n : ℕ) → n < length words → sentWord words n ≡ getD words n 0 + pick (eqb n 0) 3 2
+unfolding sentWord
+sent-active words n h = rw (lt-ltb n (length words) h)
+
+pub sent-idle : (words : List ℕ) (n : ℕ) → length words ≤ n → sentWord words n ≡ 0
+unfolding sentWord
+sent-idle words n h = rw (le-ltb n (length words) h)
+
+pub marked-words : (w : ℕ) (ws : List ℕ) → marked (w ∷ ws) ≡ (w + 3) ∷ map (λ v. v + 2) ws
+unfolding marked
+marked-words w ws = refl
+
+pub all-words : (channels : ℕ) (words : List ℕ) → channelWords channels words ≡ marked words ++ replicate (channels - length words) 0
+unfolding channelWords
+all-words channels words = refl
+
 -- ---- the syncs
 
 abbrev pub syncRow : ℕ → Row
@@ -97,6 +115,16 @@ fewer-syncs = agree 4 (λ k. syncsNumber 4 / 2 ^ (40 - 10 * k)) syncsNumber tt
 
 -- ---- the frame
 
+pub frame-row : (channels : ℕ) (words : List ℕ) (syncs : ℕ)
+    → frameRow channels words syncs ≡ chain channelRow (channelWords channels words) ++ syncRow syncs
+unfolding frameRow
+frame-row channels words syncs = refl
+
+pub frame-octets : (channels : ℕ) (words : List ℕ) (syncs level : ℕ)
+    → frameOctets channels words syncs level ≡ octets (needed channels syncs) (levels (odd level) (frameRow channels words syncs))
+unfolding frameOctets
+frame-octets channels words syncs level = refl
+
 module _ (channels : ℕ) (words : List ℕ) (syncs : ℕ) (most : length words ≤ channels) where
   length-channels : length (chain channelRow (channelWords channels words)) ≡ 40 * channels
   length-channels =
@@ -121,6 +149,10 @@ module _ (channels : ℕ) (words : List ℕ) (syncs : ℕ) (most : length words 
   frame-syncs i k h =
       ap big (part-second (chain channelRow (channelWords channels words)) (syncRow syncs) (40 * channels) (10 * i) (10 * k) length-channels)
       ∙ syncs-window syncs i k h
+
+  pub frame-sync : (s : ℕ) → s < syncs → window (frameRow channels words syncs) (40 * channels + 10 * s) 10 ≡ sync
+  unfolding syncsNumber
+  frame-sync s h = frame-syncs s 1 (omega arith)
 
   pub block-window : (b : ℕ) → 40 * b + 40 ≤ boundary channels syncs → window (frameRow channels words syncs) (40 * b) 40 ≡ blockOf channels words b
   unfolding window blockOf

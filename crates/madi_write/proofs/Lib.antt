@@ -1,3 +1,4 @@
 pub mod Frames
 pub mod Blocks
 pub mod Checks
+pub mod Residue

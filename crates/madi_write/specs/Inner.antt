@@ -8,9 +8,9 @@ use lib.Dec.{eqb, ltb}
 use lib.ListN.{length, getD, take, drop}
 use Rattle.bits.specs.Pick.{pick}
 use Rattle.bits.specs.Row.{big}
+use Rattle.subframe.specs.Body.{evenBody}
 use Rattle.madi_code.specs.Groups.{sync}
 use Rattle.madi_code.specs.Channels.{channelRow}
-use Rattle.madi_frame.specs.Frame.{evenBody}
 
 -- the word of channel b as it is sent
 unfoldable pub sentWord : List ℕ → ℕ → ℕ

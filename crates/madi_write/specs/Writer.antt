@@ -1,19 +1,18 @@
 -- What writing a MADI frame means: the channels as they are sent, the frame's bits, its octets. Assumes nothing.
 use Prim.Native.Nat.{ℕ, _+_, _-_, _/_, _%_}
-use mathlib.Core.Bool.{Bool, not, _&&_}
+use mathlib.Core.Bool.{not}
 use mathlib.Core.List.{List, [], _∷_, _++_, map}
 use lib.Dec.{eqb, leb}
-use lib.ListN.{length, getD, drop, replicate}
-use Rattle.bits.specs.Pick.{pick, first}
+use lib.ListN.{length, getD, replicate}
 use Rattle.bits.specs.Row.{Row, odd, bigBits}
 use Rattle.bits.specs.Pack.{chain, octets}
+use Rattle.answer.specs.Answer.{Answer, Answer.accepted}
+use Rattle.answer.specs.Demand.{Demand, Demand.asks, Demand.findsNone, provided}
+use Rattle.subframe.specs.Body.{evenBody}
 use Rattle.line.specs.Nrzi.{levels}
+use Rattle.madi_code.specs.Frame.{counted, boundary}
 use Rattle.madi_code.specs.Groups.{sync}
 use Rattle.madi_code.specs.Channels.{channelRow}
-use Rattle.madi_frame.specs.Frame.{counted, evenBody, boundary}
-use Rattle.write_answer.specs.Answer.{ifWritten}
-use Rattle.write_answer.specs.declared.WriteAnswer.{WriteAnswer}
-use Rattle.write_answer.specs.declared.WriteAnswer.the-variants.{Written, Refused}
 
 -- ---- the frame
 
@@ -40,32 +39,22 @@ frameOctets channels words syncs level = octets (needed channels syncs) (levels 
 
 -- ---- the answer
 
--- 56 or 64 channels, that many words at most, at least one, 1 to 255 syncs, a level
-abbrev pub inRange : ℕ → ℕ → ℕ → ℕ → Bool
-inRange channels count syncs level = counted channels && (leb 1 count && leb count channels) && (leb 1 syncs && leb syncs 255) && leb level 1
+-- 56 or 64 channels, at least one word and that many at most, 1 to 255 syncs, a level (2); at least the octets needed
+-- (1)
+abbrev pub argumentDemands : ℕ → ℕ → ℕ → ℕ → ℕ → List Demand
+argumentDemands channels count syncs level room =
+    asks 2 0 (counted channels) ∷ asks 2 0 (leb 1 count) ∷ asks 2 0 (leb count channels) ∷ asks 2 0 (leb 1 syncs) ∷ asks 2 0 (leb syncs 255)
+    ∷ asks 2 0 (leb level 1) ∷ asks 1 0 (leb (needed channels syncs) room) ∷ []
 
--- bits 0 and 1 are zero
-abbrev pub clear : ℕ → Bool
-clear w = eqb (w % 4) 0
+-- parity is even (9); bits 0 and 1 are zero (12)
+abbrev pub wordDemands : List ℕ → List Demand
+wordDemands words =
+    findsNone 9 (λ i. not (evenBody (getD words i 0))) 0 (length words) ∷ findsNone 12 (λ i. not (eqb (getD words i 0 % 4) 0)) 0 (length words) ∷ []
 
--- 9 over all words, then 12 over all
-unfoldable pub wordsAnswer : List ℕ → WriteAnswer
-wordsAnswer words =
-    first (λ i. not (evenBody (getD words i 0))) 0 (length words) (Refused 9)
-    (first (λ i. not (clear (getD words i 0))) 0 (length words) (Refused 12) Written)
+abbrev pub writeDemands : ℕ → List ℕ → ℕ → ℕ → ℕ → List Demand
+writeDemands channels words syncs level room = argumentDemands channels (length words) syncs level room ++ wordDemands words
 
--- with room for so many octets: arguments (2), length (1), then the words
-unfoldable pub writeAnswer : ℕ → List ℕ → ℕ → ℕ → ℕ → WriteAnswer
-writeAnswer channels words syncs level room =
-    pick (inRange channels (length words) syncs level)
-    (pick (leb (needed channels syncs) room) (wordsAnswer words) (Refused 1 0))
-    (Refused 2 0)
-
--- ---- what the output then holds
-
--- the frame and the rest of what stood there; or what stood there
-abbrev pub writtenBy : WriteAnswer → ℕ → List ℕ → ℕ → ℕ → List ℕ → List ℕ
-writtenBy a channels words syncs level old = ifWritten a (frameOctets channels words syncs level ++ drop (needed channels syncs) old) old
-
-abbrev pub written : ℕ → List ℕ → ℕ → ℕ → List ℕ → List ℕ
-written channels words syncs level old = writtenBy (writeAnswer channels words syncs level (length old)) channels words syncs level old
+-- with room for so many octets: the octets of the frame
+unfoldable pub frameWritten : ℕ → List ℕ → ℕ → ℕ → ℕ → Answer (List ℕ)
+frameWritten channels words syncs level room =
+    provided (writeDemands channels words syncs level room) (accepted (frameOctets channels words syncs level))

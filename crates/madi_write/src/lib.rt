@@ -3,17 +3,22 @@ ghost use mathlib.Core.Path.{_≡_};
 ghost use mathlib.Core.List.{_++_};
 ghost use Prim.Native.Nat.{ℕ, _+_, _*_, _%_, _<_, _≤_};
 ghost use lib.ListN.{length, getD, drop};
-ghost use Rattle.madi_write.specs.Writer.{needed, frameOctets, inRange, clear, wordsAnswer, writeAnswer, written};
-ghost use Rattle.madi_write.specs.Inner.{sentWord, blockOf, Levels, Stored, Sound};
 ghost use Rattle.bits.specs.Row.{big};
+ghost use Rattle.answer.specs.Answer.{accepted, verdict, rewritten};
+ghost use Rattle.answer.specs.Demand.{provided};
+ghost use Rattle.answer.specs.Said.{verdictSaid};
 ghost use Rattle.madi_code.specs.Channels.{channelRow};
-ghost use Rattle.madi_tables.specs.Inner.{Pairs};
-use write_answer::WriteAnswer;
+ghost use Rattle.madi_code.specs.Inner.{Sends};
+ghost use Rattle.madi_write.specs.Writer.{needed, frameOctets, wordDemands, writeDemands, frameWritten};
+ghost use Rattle.madi_write.specs.Inner.{sentWord, blockOf, Levels, Stored, Sound};
+use answer::Verdict;
+use madi_code::SYNC;
 
 // Four syncs: 40 bits, as a channel has.
-const FOUR_SYNCS: u64 = 0b1100010001110001000111000100011100010001;
+const FOUR_SYNCS: u64 = SYNC * 0x4010_0401;
 
-// The word of channel b as it is sent: the given ones are active, and bit 0 is set on channel 0; the others are all zero.
+// The word of channel b as it is sent: the given ones are active, and bit 0 is set on channel 0; the others are all
+// zero.
 fn sent_word(words: &[u32], b: usize) -> u32
     requires { ⌜ ((k : ℕ) → getD (now words) k 0 % 4 ≡ 0) ⌝ }
     ensures { λ r. ⌜ r ≡ sentWord (now (words .entry)) b ⌝ }
@@ -27,13 +32,14 @@ fn sent_word(words: &[u32], b: usize) -> u32
     0
 }
 
-// The 40 bits of a frame from bit 40 b on: a channel, or four syncs. The table is that of pairs, and `idle` an inactive channel.
-fn block(table: &[u16; 256], idle: u64, channels: usize, words: &[u32], b: usize) -> u64
-    requires { ⌜ Pairs (now table) × (idle ≡ big (channelRow 0)) × (length (now words) ≤ channels) × ((k : ℕ) → getD (now words) k 0 % 4 ≡ 0) ⌝ }
+// The 40 bits of a frame from bit 40 b on: a channel, or four syncs. The table is that of groups, and `idle` an
+// inactive channel.
+fn block(table: &[u8; 16], idle: u64, channels: usize, words: &[u32], b: usize) -> u64
+    requires { ⌜ Sends (now table) × (idle ≡ big (channelRow 0)) × (length (now words) ≤ channels) × ((k : ℕ) → getD (now words) k 0 % 4 ≡ 0) ⌝ }
     ensures { λ r. ⌜ r ≡ blockOf channels (now (words .entry)) b ⌝ }
 {
     if b < words.len() {
-        return madi_lookup::bits_by(table, sent_word(words, b));
+        return madi_code::bits_by(table, sent_word(words, b));
     }
     if b < channels {
         return idle;
@@ -70,8 +76,8 @@ fn fill(channels: usize, words: &[u32], syncs: usize, level: u32, line: &mut [u8
     requires { ⌜ (level ≤ 1) × (channels ≤ 64) × (length (now words) ≤ channels) × (syncs ≤ 255) × ((k : ℕ) → getD (now words) k 0 % 4 ≡ 0) × (needed channels syncs ≤ length (now line)) ⌝ }
     ensures { λ r. ⌜ now (line .exit) ≡ frameOctets channels (now (words .entry)) syncs level ++ drop (needed channels syncs) (now (line .entry)) ⌝ }
 {
-    let table = madi_tables::pairs();
-    let idle = madi_code::channel_bits(0);
+    let table = madi_code::groups();
+    let idle = madi_code::bits_by(&table, 0);
     let whole = channels + syncs / 4;
     let mut last = level as u64;
     let mut b: usize = 0;
@@ -86,30 +92,6 @@ fn fill(channels: usize, words: &[u32], syncs: usize, level: u32, line: &mut [u8
     store(line, 5 * whole, y << (40 - 10 * k), (10 * k + 7) / 8);
 }
 
-// Whether the numbers handed to the writer are in their ranges.
-fn in_range(channels: u32, count: usize, syncs: u32, level: u32) -> bool
-    ensures { λ r. ⌜ r ≡ inRange channels count syncs level ⌝ }
-{
-    if madi_frame::is_counted(channels) {
-        if 1 <= count {
-            if count <= channels as usize {
-                if 1 <= syncs {
-                    if syncs <= 255 {
-                        return level <= 1;
-                    }
-                }
-            }
-        }
-    }
-    false
-}
-
-fn is_clear(w: u32) -> bool
-    ensures { λ r. ⌜ r ≡ clear w ⌝ }
-{
-    w % 4 == 0
-}
-
 // Nothing where every word passes both checks.
 fn faults(words: &[u32]) -> u32
     requires { ⌜ length (now words) ≤ 64 ⌝ }
@@ -118,23 +100,23 @@ fn faults(words: &[u32]) -> u32
     let mut n: u32 = 0;
     let mut i = 0;
     while i < words.len() {
-        n = n + (madi_frame::body_parity(words[i]) + words[i] % 4);
+        n = n + (subframe::parity(words[i]) + words[i] % 4);
         i += 1;
     }
     n
 }
 
 // The first word of odd parity, then the first with bit 0 or 1 set.
-fn find_fault(words: &[u32]) -> WriteAnswer
+fn find_fault(words: &[u32]) -> Verdict
     requires { ⌜ length (now words) ≤ 64 ⌝ }
-    ensures { λ r. ⌜ r ≡ wordsAnswer (now (words .entry)) ⌝ }
+    ensures { λ r. ⌜ verdictSaid r ≡ provided (wordDemands (now (words .entry))) (accepted tt) ⌝ }
 {
     let mut i = 0;
     while i < words.len() {
-        if madi_frame::is_even(words[i]) {
+        if subframe::parity(words[i]) == 0 {
             i += 1;
         } else {
-            return WriteAnswer::Refused {
+            return Verdict::Refused {
                 number: 9,
                 place: i as u32,
             };
@@ -142,65 +124,69 @@ fn find_fault(words: &[u32]) -> WriteAnswer
     }
     let mut j = 0;
     while j < words.len() {
-        if is_clear(words[j]) {
+        if words[j] % 4 == 0 {
             j += 1;
         } else {
-            return WriteAnswer::Refused {
+            return Verdict::Refused {
                 number: 12,
                 place: j as u32,
             };
         }
     }
-    WriteAnswer::Written
+    Verdict::Accepted
 }
 
 // The same, at one stride where there is none.
-fn check_words(words: &[u32]) -> WriteAnswer
+fn check_words(words: &[u32]) -> Verdict
     requires { ⌜ length (now words) ≤ 64 ⌝ }
-    ensures { λ r. ⌜ r ≡ wordsAnswer (now (words .entry)) ⌝ }
+    ensures { λ r. ⌜ verdictSaid r ≡ provided (wordDemands (now (words .entry))) (accepted tt) ⌝ }
 {
     if faults(words) == 0 {
-        return WriteAnswer::Written;
+        return Verdict::Accepted;
     }
     find_fault(words)
 }
 
-// The writer's answer, before anything is written.
-fn check_frame(channels: u32, words: &[u32], syncs: u32, level: u32, room: usize) -> WriteAnswer
-    ensures { λ r. ⌜ r ≡ writeAnswer channels (now (words .entry)) syncs level room ⌝ }
+// Whether all demands are met, before anything is written.
+fn check_frame(channels: u32, words: &[u32], syncs: u32, level: u32, room: usize) -> Verdict
+    ensures { λ r. ⌜ verdictSaid r ≡ provided (writeDemands channels (now (words .entry)) syncs level room) (accepted tt) ⌝ }
 {
-    if in_range(channels, words.len(), syncs, level) {
-        if (40 * channels + 10 * syncs + 7) as usize / 8 <= room {
-            return check_words(words);
+    if madi_code::is_counted(channels) {
+        if 1 <= words.len() {
+            if words.len() <= channels as usize {
+                if 1 <= syncs {
+                    if syncs <= 255 {
+                        if level <= 1 {
+                            if (40 * channels + 10 * syncs + 7) as usize / 8 <= room {
+                                return check_words(words);
+                            }
+                            return Verdict::Refused {
+                                number: 1,
+                                place: 0,
+                            };
+                        }
+                    }
+                }
+            }
         }
-        return WriteAnswer::Refused {
-            number: 1,
-            place: 0,
-        };
     }
-    WriteAnswer::Refused {
+    Verdict::Refused {
         number: 2,
         place: 0,
     }
 }
 
-// Writes a frame.
-pub fn write_frame(
-    channels: u32,
-    words: &[u32],
-    syncs: u32,
-    level: u32,
-    line: &mut [u8],
-) -> WriteAnswer
-    ensures { λ r. ⌜ r ≡ writeAnswer channels (now (words .entry)) syncs level (length (now (line .entry))) ⌝ }
-    ensures { λ r. ⌜ now (line .exit) ≡ written channels (now (words .entry)) syncs level (now (line .entry)) ⌝ }
+// Writes a frame: 56 or 64 channels, the words of those that are active, 1 to 255 syncs after them, the level before.
+pub fn write_frame(channels: u32, words: &[u32], syncs: u32, level: u32, line: &mut [u8]) -> Verdict
+    ensures { λ r. ⌜ verdictSaid r ≡ verdict (frameWritten channels (now (words .entry)) syncs level (length (now (line .entry)))) ⌝ }
+    ensures { λ r. ⌜ now (line .exit) ≡ rewritten (frameWritten channels (now (words .entry)) syncs level (length (now (line .entry)))) (now (line .entry)) ⌝ }
 {
     let answer = check_frame(channels, words, syncs, level, line.len());
     match answer {
-        WriteAnswer::Written => {
+        Verdict::Accepted => {
             fill(channels as usize, words, syncs as usize, level, line);
-            WriteAnswer::Written
+            Verdict::Accepted
         }
-        WriteAnswer::Refused { number, place } => WriteAnswer::Refused { number, place },
+        Verdict::Refused { number, place } => Verdict::Refused { number, place },
     }
 }

@@ -1,35 +1,39 @@
--- Words of two octets, the end of a list as a part of it, and a record case by case. Assumes nothing.
+-- Words of two octets, the end of a list as a part of it, and what is answered of a record by its kind. Assumes
+-- nothing.
 use mathlib.Core.Path.{_≡_, refl, ap, ap₂, _∙_}
 use mathlib.Core.List.{List, [], _∷_}
 use Prim.Native.Nat.{ℕ, zero, suc, _+_, _-_, _*_, _≤_, _<_}
 use native.Mathlib.Omega.{arith}
-use borrow.Author.Tests.{eq-eqb, ne-eqb, lt-ltb, le-ltb}
+use borrow.Author.Tests.{eq-eqb, ne-eqb, le-leb, leb-true}
 use lib.ListN.{length, getD, take, drop, length-drop}
 use lib.Seq.{take-all}
-use Rattle.records.specs.Record.{paired, blockOutcome, packetOutcome, frameOutcome, byKind, judged}
-use Rattle.report_text.specs.declared.Outcome.the-variants.{Refused}
+use Rattle.answer.specs.Answer.{Answer.accepted, Answer.refused}
+use Rattle.answer.specs.Demand.{_&_}
+use Rattle.answer.specs.Demand.Stops.{fails}
+use Rattle.answer.proofs.Chains.{passing, stopped, met, stops}
+use Rattle.records.specs.Record.{bigEndian, packetDemands, packetRecord, kindDemands, kindOf, byKind, recordAnswer}
 
 -- ---- words of two octets
 
-pub length-paired : (n : ℕ) (s : List ℕ) → length s ≡ n * 2 → length (paired s) ≡ n
-unfolding paired
-length-paired zero [] h = refl
-length-paired zero (a ∷ s) h = absurd (omega arith)
-length-paired (suc n) [] h = absurd (omega arith)
-length-paired (suc n) (a ∷ []) h = absurd (omega arith)
-length-paired (suc n) (a ∷ b ∷ s) h = ap suc (length-paired n s (omega arith))
+pub length-words : (n : ℕ) (s : List ℕ) → length s ≡ n * 2 → length (bigEndian s) ≡ n
+unfolding bigEndian
+length-words zero [] h = refl
+length-words zero (a ∷ s) h = absurd (omega arith)
+length-words (suc n) [] h = absurd (omega arith)
+length-words (suc n) (a ∷ []) h = absurd (omega arith)
+length-words (suc n) (a ∷ b ∷ s) h = ap suc (length-words n s (omega arith))
 
-pub paired-at : (n : ℕ) (s : List ℕ) (i : ℕ) → length s ≡ n * 2 → i < n
-    → getD s (i * 2) 0 * 256 + getD s (i * 2 + 1) 0 ≡ getD (paired s) i 0
-unfolding paired
-paired-at zero s i h k = absurd (omega arith)
-paired-at (suc n) [] i h k = absurd (omega arith)
-paired-at (suc n) (a ∷ []) i h k = absurd (omega arith)
-paired-at (suc n) (a ∷ b ∷ s) zero h k = refl
-paired-at (suc n) (a ∷ b ∷ s) (suc i) h k =
+pub word-at : (n : ℕ) (s : List ℕ) (i : ℕ) → length s ≡ n * 2 → i < n
+    → getD s (i * 2) 0 * 256 + getD s (i * 2 + 1) 0 ≡ getD (bigEndian s) i 0
+unfolding bigEndian
+word-at zero s i h k = absurd (omega arith)
+word-at (suc n) [] i h k = absurd (omega arith)
+word-at (suc n) (a ∷ []) i h k = absurd (omega arith)
+word-at (suc n) (a ∷ b ∷ s) zero h k = refl
+word-at (suc n) (a ∷ b ∷ s) (suc i) h k =
     let p : suc i * 2 ≡ suc (suc (i * 2)) = omega arith in
     let q : suc i * 2 + 1 ≡ suc (suc (i * 2 + 1)) = omega arith in
-    ap₂ (λ (x y : ℕ). getD (a ∷ b ∷ s) x 0 * 256 + getD (a ∷ b ∷ s) y 0) p q ∙ paired-at n s i (omega arith) (omega arith)
+    ap₂ (λ (x y : ℕ). getD (a ∷ b ∷ s) x 0 * 256 + getD (a ∷ b ∷ s) y 0) p q ∙ word-at n s i (omega arith) (omega arith)
 
 -- ---- a part that goes to the end
 
@@ -41,32 +45,31 @@ to-the-end k s =
 -- ---- a record
 
 module _ (body : List ℕ) where
-  pub judged-short : length body < 2 → Refused 2 0 ≡ judged body
-  unfolding judged
-  judged-short h = simp (lt-ltb (length body) 2 h)
+  -- what is refused before the kind is known is all that is answered
+  pub kind-refused : (number place : ℕ) → kindOf body ≡ refused number place → recordAnswer body ≡ refused number place
+  unfolding kindOf recordAnswer
+  kind-refused number place e = stopped (byKind (getD body 1 0) (drop 2 body)) (stops (getD body 1 0) (kindDemands body) number place e)
 
-  module _ (long : 2 ≤ length body) where
-    pub judged-version : (getD body 0 0 ≡ 1 → ⊥) → Refused 2 0 ≡ judged body
-    unfolding judged
-    judged-version v = simp (le-ltb (length body) 2 long, ne-eqb (getD body 0 0) 1 v)
+  module _ (kind : ℕ) (e : kindOf body ≡ accepted kind) where
+    -- a record that has a kind has its two octets
+    pub kind-within : 2 ≤ length body
+    unfolding kindOf
+    kind-within = leb-true 2 (length body) (met (getD body 1 0) (kindDemands body) e .0 .0)
 
-    module _ (version : getD body 0 0 ≡ 1) where
-      of-kind : byKind (getD body 1 0) (drop 2 body) ≡ judged body
-      unfolding judged
-      of-kind = simp (le-ltb (length body) 2 long, eq-eqb (getD body 0 0) 1 version)
+    -- and what is answered of it is by its kind
+    pub kind-known : recordAnswer body ≡ byKind kind (drop 2 body)
+    unfolding kindOf recordAnswer
+    kind-known =
+        let m = met (getD body 1 0) (kindDemands body) e in
+        passing (byKind (getD body 1 0) (drop 2 body)) (kindDemands body) (m .0) ∙ ap (λ (k : ℕ). byKind k (drop 2 body)) (m .1)
 
-      pub judged-block : getD body 1 0 ≡ 1 → blockOutcome (drop 2 body) ≡ judged body
-      unfolding byKind
-      judged-block k = rw k at of-kind
+-- a packet of another length
+pub packet-short : (body : List ℕ) → kindOf body ≡ accepted 2 → (length (drop 2 body) ≡ 62 → ⊥) → recordAnswer body ≡ refused 1 0
+unfolding byKind packetRecord
+packet-short body e h = kind-known body 2 e ∙ stopped _ (fails (ne-eqb (length (drop 2 body)) 62 h))
 
-      pub judged-packet : getD body 1 0 ≡ 2 → packetOutcome (drop 2 body) ≡ judged body
-      unfolding byKind
-      judged-packet k = rw k at of-kind
-
-      pub judged-frame : getD body 1 0 ≡ 3 → frameOutcome (drop 2 body) ≡ judged body
-      unfolding byKind
-      judged-frame k = rw k at of-kind
-
-      pub judged-unknown : (getD body 1 0 ≡ 1 → ⊥) → (getD body 1 0 ≡ 2 → ⊥) → (getD body 1 0 ≡ 3 → ⊥) → Refused 2 0 ≡ judged body
-      unfolding byKind
-      judged-unknown a b d = simp (ne-eqb (getD body 1 0) 1 a, ne-eqb (getD body 1 0) 2 b, ne-eqb (getD body 1 0) 3 d) at of-kind
+-- the kind of two octets and more of version 1
+pub kind-is : (body : List ℕ) → 2 ≤ length body → getD body 0 0 ≡ 1 → kindOf body ≡ accepted (getD body 1 0)
+unfolding kindOf
+kind-is body l v =
+    passing (accepted (getD body 1 0)) (kindDemands body) (le-leb 2 (length body) l & eq-eqb (getD body 0 0) 1 v & tt)

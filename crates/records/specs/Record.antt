@@ -1,71 +1,87 @@
--- One record, after its length: a version, which is 1, a kind, and a payload. Assumes nothing.
+-- One record, after its length: a version, which is 1, a kind, and a payload; and what is answered of it. Assumes
+-- nothing.
 use Prim.Native.Nat.{ℕ, _+_, _*_}
 use mathlib.Core.List.{List, [], _∷_}
-use lib.Dec.{eqb, ltb}
+use lib.Dec.{eqb, leb}
 use lib.ListN.{length, getD, drop}
 use Rattle.bits.specs.Pick.{pick}
-use Rattle.aes3_read.specs.Reader.{readAnswer}
-use Rattle.aes3_read.specs.declared.ReadAnswer.{ReadAnswer as BlockRead}
-use Rattle.aes3_read.specs.declared.ReadAnswer.the-variants.{Read as BlockIs}
-use Rattle.aes3_read.specs.declared.ReadAnswer.the-variants.{Refused as NoBlock}
-use Rattle.hd_read.specs.Read.{readAnswer as packetAnswer}
-use Rattle.hd_read.specs.declared.ReadAnswer.{ReadAnswer as PacketRead}
-use Rattle.hd_read.specs.declared.ReadAnswer.the-variants.{Read as PacketIs}
-use Rattle.hd_read.specs.declared.ReadAnswer.the-variants.{Refused as NoPacket}
-use Rattle.madi_piece.specs.Reader.{readFrame, answerOf}
-use Rattle.madi_piece.specs.declared.ReadAnswer.{ReadAnswer as FrameRead}
-use Rattle.madi_piece.specs.declared.ReadAnswer.the-variants.{Read as FrameIs}
-use Rattle.madi_piece.specs.declared.ReadAnswer.the-variants.{Refused as NoFrame}
-use Rattle.report_text.specs.declared.Outcome.{Outcome}
-use Rattle.report_text.specs.declared.Outcome.the-variants.{Aes3, Hd, Madi, Refused}
+use Rattle.answer.specs.Answer.{Answer, Answer.accepted, Answer.refused, mapped}
+use Rattle.answer.specs.Demand.{Demand, Demand.asks, provided}
+use Rattle.aes3_read.specs.Reader.{readAnswer as blockAnswer, crccs}
+use Rattle.hd_packet.specs.declared.Fields.{Fields}
+use Rattle.hd_read.specs.Read.{readAnswer as packetAnswer, fieldsRead}
+use Rattle.madi_read.specs.Reader.{frameRead, countsOf}
+use Rattle.records.specs.declared.Outcome.{Outcome}
+use Rattle.records.specs.declared.Outcome.the-variants.{Aes3, Hd, Madi, Refused}
 
--- ---- kind 1: an AES3 block; whether the CRCC of A and of B is right
+-- what is answered of an accepted record: whether the CRCC of A and of B is right; group and DBN; active and sync count
+pub data Content : Type 0 where
+  aes3 : (a b : ℕ) → Content
+  hd : (group dbn : ℕ) → Content
+  madi : (active syncs : ℕ) → Content
 
-abbrev pub ofBlock : BlockRead → Outcome
-ofBlock (BlockIs a b) = Aes3 a b
-ofBlock (NoBlock number place) = Refused number place
+abbrev pub outcomeSaid : Outcome → Answer Content
+outcomeSaid (Aes3 a b) = accepted (Content.aes3 a b)
+outcomeSaid (Hd group dbn) = accepted (Content.hd group dbn)
+outcomeSaid (Madi active syncs) = accepted (Content.madi active syncs)
+outcomeSaid (Refused number place) = refused number place
 
-unfoldable pub blockOutcome : List ℕ → Outcome
-blockOutcome payload = ofBlock (readAnswer payload 384 144)
+-- ---- kind 1: an AES3 block
 
--- ---- kind 2: a packet, 62 octets, the higher octet of each word first; group and DBN
+abbrev pub blockContent : ℕ × ℕ → Content
+blockContent crccs = Content.aes3 (crccs .0) (crccs .1)
 
-abbrev pub ofPacket : PacketRead → Outcome
-ofPacket (PacketIs f) = Hd (f .group) (f .dbn)
-ofPacket (NoPacket number place) = Refused number place
+unfoldable pub blockRecord : List ℕ → Answer Content
+blockRecord payload = mapped blockContent (mapped crccs (blockAnswer payload 384 144))
 
--- words of two octets
-unfoldable pub paired : List ℕ → List ℕ
-paired [] = []
-paired (a ∷ []) = []
-paired (a ∷ b ∷ s) = (a * 256 + b) ∷ paired s
+-- ---- kind 2: a packet, 62 octets, each word big-endian
 
-unfoldable pub packetOutcome : List ℕ → Outcome
-packetOutcome payload = pick (eqb (length payload) 62) (ofPacket (packetAnswer (paired payload) 4)) (Refused 1 0)
+abbrev pub packetContent : Fields → Content
+packetContent f = Content.hd (f .group) (f .dbn)
 
--- ---- kind 3: channel count, level before, bit length in two octets, line; active and sync count
+-- words of two octets, the higher first
+unfoldable pub bigEndian : List ℕ → List ℕ
+bigEndian [] = []
+bigEndian (a ∷ []) = []
+bigEndian (a ∷ b ∷ s) = (a * 256 + b) ∷ bigEndian s
 
-abbrev pub ofFrame : FrameRead → Outcome
-ofFrame (FrameIs active syncs) = Madi active syncs
-ofFrame (NoFrame number place) = Refused number place
+abbrev pub packetDemands : List ℕ → List Demand
+packetDemands payload = asks 1 0 (eqb (length payload) 62) ∷ []
 
-unfoldable pub frameOutcome : List ℕ → Outcome
-frameOutcome payload =
-    pick (ltb (length payload) 4) (Refused 1 0)
-    (ofFrame (answerOf (readFrame (getD payload 0 0) (getD payload 1 0) (getD payload 2 0 * 256 + getD payload 3 0)
-    (drop 4 payload) (getD payload 0 0))))
+unfoldable pub packetRecord : List ℕ → Answer Content
+packetRecord payload = provided (packetDemands payload) (mapped packetContent (mapped fieldsRead (packetAnswer (bigEndian payload) 4)))
+
+-- ---- kind 3: channel count, level before, bit length in two octets, line
+
+abbrev pub frameContent : ℕ × ℕ → Content
+frameContent counts = Content.madi (counts .0) (counts .1)
+
+abbrev pub frameDemands : List ℕ → List Demand
+frameDemands payload = asks 1 0 (leb 4 (length payload)) ∷ []
+
+unfoldable pub frameRecord : List ℕ → Answer Content
+frameRecord payload =
+    provided (frameDemands payload)
+    (mapped frameContent (mapped countsOf
+    (frameRead (getD payload 0 0) (getD payload 1 0) (getD payload 2 0 * 256 + getD payload 3 0) (drop 4 payload) (getD payload 0 0))))
 
 -- ---- any kind
 
-unfoldable pub byKind : ℕ → List ℕ → Outcome
-byKind kind payload =
-    pick (eqb kind 1) (blockOutcome payload)
-    (pick (eqb kind 2) (packetOutcome payload)
-    (pick (eqb kind 3) (frameOutcome payload)
-    (Refused 2 0)))
+-- a length below 2, an unknown version: 2
+abbrev pub kindDemands : List ℕ → List Demand
+kindDemands body = asks 2 0 (leb 2 (length body)) ∷ asks 2 0 (eqb (getD body 0 0) 1) ∷ []
 
--- a length below 2, an unknown version or kind: 2; otherwise what the reader of the kind says
-unfoldable pub judged : List ℕ → Outcome
-judged body =
-    pick (ltb (length body) 2) (Refused 2 0)
-    (pick (eqb (getD body 0 0) 1) (byKind (getD body 1 0) (drop 2 body)) (Refused 2 0))
+-- the octet that gives the kind
+unfoldable pub kindOf : List ℕ → Answer ℕ
+kindOf body = provided (kindDemands body) (accepted (getD body 1 0))
+
+-- what the reader of the kind says; an unknown kind: 2
+unfoldable pub byKind : ℕ → List ℕ → Answer Content
+byKind kind payload =
+    pick (eqb kind 1) (blockRecord payload)
+    (pick (eqb kind 2) (packetRecord payload)
+    (pick (eqb kind 3) (frameRecord payload)
+    (refused 2 0)))
+
+unfoldable pub recordAnswer : List ℕ → Answer Content
+recordAnswer body = provided (kindDemands body) (byKind (getD body 1 0) (drop 2 body))

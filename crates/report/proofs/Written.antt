@@ -4,18 +4,17 @@ use mathlib.Core.List.{List, []}
 use Prim.Native.Nat.{ℕ, _+_, _≤_}
 use native.Mathlib.Omega.{arith}
 use lib.ListN.{length, drop, length-append}
-use Rattle.report_head.specs.declared.Turn.{Turn}
-use Rattle.report_head.proofs.HeadLaws.{turn-cases}
-use Rattle.report_text.specs.Text.{cut, countLine}
-use Rattle.report_text.specs.Placed.{withText}
-use Rattle.report_text.specs.declared.Outcome.the-variants.{Refused}
-use Rattle.report_text.proofs.Lengths.{line-most, count-most, starts, with-size, at-end}
-use Rattle.records.specs.Record.{judged}
-use Rattle.report.specs.Report.{Told, ending, going, toldOf, told}
-use Rattle.report.specs.Inner.{stepOf}
+use Rattle.records.specs.declared.Turn.{Turn}
+use Rattle.records.proofs.HeadLaws.{turn-cases}
+use Rattle.report.specs.Text.{cutLine, countLine}
+use Rattle.report.specs.Placed.{withText}
+use Rattle.answer.specs.Answer.{Answer.refused}
+use Rattle.report.proofs.Lengths.{line-most, count-most, starts, with-size, at-end}
+use Rattle.records.specs.Record.{recordAnswer}
+use Rattle.report.specs.Report.{Printed, ending, going, printedFor, printed, stepOf}
 use Rattle.report.specs.declared.Step.{Step}
 
-abbrev Short : Told → Type 0
+abbrev Short : Printed → Type 0
 Short t = length (t .text) ≤ 128
 
 ending-short : (n : ℕ) (text : List ℕ) → length text ≤ 71 → Short (ending n text)
@@ -26,20 +25,20 @@ going-short : (n : ℕ) (text : List ℕ) → length text ≤ 71 → Short (goin
 unfolding going
 going-short n text h = omega arith
 
-short : (n : ℕ) (head body : List ℕ) → Short (told n head body)
-unfolding told toldOf
+short : (n : ℕ) (head body : List ℕ) → Short (printed n head body)
+unfolding printed printedFor
 short n head body =
-    turn-cases n head (length body) (λ (t : Turn). Short (toldOf t body)) (ending-short n [] (omega arith)) (ending-short n cut (omega arith))
-    (ending-short (n + 1) _ (line-most (n + 1) (Refused 2 0))) (going-short (n + 1) _ (line-most (n + 1) (judged body)))
+    turn-cases n head (length body) (λ (t : Turn). Short (printedFor t body)) (ending-short n [] (omega arith)) (ending-short n cutLine (omega arith))
+    (ending-short (n + 1) _ (line-most (n + 1) (refused 2 0))) (going-short (n + 1) _ (line-most (n + 1) (recordAnswer body)))
 
-pub step-starts : (t : Told) {s : Step} → s ≡ stepOf t → s .from ≤ 128
+pub step-starts : (t : Printed) {s : Step} → s ≡ stepOf t → s .from ≤ 128
 unfolding stepOf
 step-starts t e = omega (arith, ap (λ (s : Step). s .from) e, starts (t .text))
 
 module _ (old : List ℕ) (size : length old ≡ 128) (n : ℕ) (head body : List ℕ) where
-  pub step-written : drop (stepOf (told n head body) .from) (withText (told n head body .text) old) ≡ told n head body .text
+  pub step-written : drop (stepOf (printed n head body) .from) (withText (printed n head body .text) old) ≡ printed n head body .text
   unfolding stepOf
-  step-written = at-end (told n head body .text) old size (short n head body)
+  step-written = at-end (printed n head body .text) old size (short n head body)
 
-  pub step-size : {new : List ℕ} → new ≡ withText (told n head body .text) old → length new ≡ 128
-  step-size e = ap length e ∙ with-size (told n head body .text) old size (short n head body)
+  pub step-size : {new : List ℕ} → new ≡ withText (printed n head body .text) old → length new ≡ 128
+  step-size e = ap length e ∙ with-size (printed n head body .text) old size (short n head body)

@@ -1,7 +1,11 @@
--- A step of the report as the code hands it over: its text stands at the end of a buffer of 128 octets. Assumes nothing.
-use Rattle.report_text.specs.Placed.{startOf}
-use Rattle.report.specs.Report.{Told}
-use Rattle.report.specs.declared.Step.{Step}
+-- A text put before a place of a buffer, as the code makes a line from its end. Assumes nothing.
+use mathlib.Core.Path.{_≡_}
+use Prim.Native.Nat.{ℕ, _+_}
+use mathlib.Core.List.{List, _++_}
+use lib.ListN.{length, take, drop}
 
-unfoldable pub stepOf : Told → Step
-stepOf t = record { from = startOf (t .text); records = t .records; last = t .last }
+-- a text was put into a buffer before `end`, from `from` on, and nothing else was changed
+pub record Put (old : List ℕ) (end : ℕ) (text : List ℕ) (from : ℕ) (new : List ℕ) : Type 0 where
+  pub ends : from + length text ≡ end
+  pub before : take from new ≡ take from old
+  pub after : drop from new ≡ text ++ drop end old

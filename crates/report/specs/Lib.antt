@@ -1,2 +1,4 @@
+pub mod Text
+pub mod Placed
 pub mod Report
 pub mod Inner

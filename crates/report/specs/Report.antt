@@ -1,31 +1,33 @@
--- The report of a whole input: records one after the other, each four octets of length, the highest first, and then as many octets.
--- Beside it what is told of one record from the octets that there were of it, and the report as a program that goes record by record
--- writes it. Assumes nothing.
+-- The report of a whole input: records one after the other, each four octets of length, the highest first, and then
+-- as many octets. Beside it what is printed of one record from the octets that there were of it. Assumes nothing.
 use Prim.Native.Nat.{ℕ, zero, suc, _+_, _-_}
 use mathlib.Core.Bool.{Bool, true, false}
 use mathlib.Core.List.{List, [], _++_}
 use lib.Dec.{eqb, ltb}
 use lib.ListN.{length, take, drop}
 use Rattle.bits.specs.Pick.{pick}
-use Rattle.records.specs.Record.{judged}
-use Rattle.report_text.specs.declared.Outcome.the-variants.{Refused}
-use Rattle.report_head.specs.Head.{sizeOf, toRead, turnOf}
-use Rattle.report_head.specs.declared.Turn.{Turn}
-use Rattle.report_head.specs.declared.Turn.the-variants.{End, Cut, Long, Record}
-use Rattle.report_text.specs.Text.{heading, cut, lineOf, countLine}
+use Rattle.answer.specs.Answer.{Answer.refused}
+use Rattle.records.specs.Head.{longest, sizeOf, turnOf}
+use Rattle.records.specs.Record.{recordAnswer}
+use Rattle.records.specs.declared.Turn.{Turn}
+use Rattle.records.specs.declared.Turn.the-variants.{End, Cut, Long, Record}
+use Rattle.report.specs.Text.{heading, cutLine, lineOf, countLine}
+use Rattle.report.specs.Placed.{startOf}
+use Rattle.report.specs.declared.Step.{Step}
 
 -- ---- the whole input
 
--- after n records: the end of the input; a header cut by the end; a length above 8,192, which is refused and counted, and ends the
--- reading; a body cut by the end; a record, whose number is n + 1, and what follows it. At most so many records.
+-- after n records: the end of the input; a header cut by the end; a length above 8,192, which is refused and counted,
+-- and ends the reading; a body cut by the end; a record, whose number is n + 1, and what follows it. At most so many
+-- records.
 unfoldable pub reportOn : ℕ → ℕ → List ℕ → List ℕ
 reportOn zero n input = []
 reportOn (suc most) n input =
     pick (eqb (length input) 0) (countLine n)
-    (pick (ltb (length input) 4) (cut ++ countLine n)
-    (pick (ltb 8192 (sizeOf input)) (lineOf (n + 1) (Refused 2 0) ++ countLine (n + 1))
-    (pick (ltb (length input - 4) (sizeOf input)) (cut ++ countLine n)
-    (lineOf (n + 1) (judged (take (sizeOf input) (drop 4 input))) ++ reportOn most (n + 1) (drop (4 + sizeOf input) input)))))
+    (pick (ltb (length input) 4) (cutLine ++ countLine n)
+    (pick (ltb longest (sizeOf input)) (lineOf (n + 1) (refused 2 0) ++ countLine (n + 1))
+    (pick (ltb (length input - 4) (sizeOf input)) (cutLine ++ countLine n)
+    (lineOf (n + 1) (recordAnswer (take (sizeOf input) (drop 4 input))) ++ reportOn most (n + 1) (drop (4 + sizeOf input) input)))))
 
 -- the whole report; each record takes four octets at least, so that there are fewer records than octets
 unfoldable pub reportOf : List ℕ → List ℕ
@@ -33,46 +35,30 @@ reportOf input = heading ++ reportOn (suc (length input)) 0 input
 
 -- ---- one record
 
--- what is told of a record: a text, how many records are counted then, and whether the report ends
-pub record Told : Type 0 where
+-- what is printed of a record: a text, how many records are counted then, and whether the report ends
+pub record Printed : Type 0 where
   pub text : List ℕ
   pub records : ℕ
   pub last : Bool
 
 -- the count line always ends the report
-unfoldable pub ending : ℕ → List ℕ → Told
+unfoldable pub ending : ℕ → List ℕ → Printed
 ending n text = record { text = text ++ countLine n; records = n; last = true }
 
-unfoldable pub going : ℕ → List ℕ → Told
+unfoldable pub going : ℕ → List ℕ → Printed
 going n text = record { text = text; records = n; last = false }
 
 -- what a turn comes to
-unfoldable pub toldOf : Turn → List ℕ → Told
-toldOf (End n) body = ending n []
-toldOf (Cut n) body = ending n cut
-toldOf (Long n) body = ending n (lineOf n (Refused 2 0))
-toldOf (Record n) body = going n (lineOf n (judged body))
+unfoldable pub printedFor : Turn → List ℕ → Printed
+printedFor (End n) body = ending n []
+printedFor (Cut n) body = ending n cutLine
+printedFor (Long n) body = ending n (lineOf n (refused 2 0))
+printedFor (Record n) body = going n (lineOf n (recordAnswer body))
 
 -- after n records, from the octets that there were of a header and of the body after it
-unfoldable pub told : ℕ → List ℕ → List ℕ → Told
-told n head body = toldOf (turnOf n head (length body)) body
+unfoldable pub printed : ℕ → List ℕ → List ℕ → Printed
+printed n head body = printedFor (turnOf n head (length body)) body
 
--- ---- record by record
-
--- the octets of a header, and of what is read after it
-abbrev pub headOf : List ℕ → List ℕ
-headOf input = take 4 input
-
-abbrev pub bodyOf : List ℕ → List ℕ
-bodyOf input = take (toRead (headOf input)) (drop 4 input)
-
--- what is written by a program that reads a header and the octets after it, writes what is told of them, and goes on with what is left
-unfoldable pub walkOn : ℕ → ℕ → List ℕ → List ℕ
-walkOn zero n input = []
-walkOn (suc most) n input =
-    told n (headOf input) (bodyOf input) .text
-    ++ pick (told n (headOf input) (bodyOf input) .last) []
-    (walkOn most (told n (headOf input) (bodyOf input) .records) (drop (4 + toRead (headOf input)) input))
-
-unfoldable pub walked : List ℕ → List ℕ
-walked input = heading ++ walkOn (suc (length input)) 0 input
+-- the same as the code hands it over: its text stands at the end of a buffer of 128 octets
+unfoldable pub stepOf : Printed → Step
+stepOf p = record { from = startOf (p .text); records = p .records; last = p .last }

@@ -1,41 +1,193 @@
 // The report on a stream of records, one record at a time: the program over it only reads, calls this and writes.
+// Each text is made at the end of a lent buffer, and the function that makes it answers where it starts.
 ghost use mathlib.Core.Path.{_≡_};
-ghost use Rattle.report_text.specs.Placed.{withText};
-ghost use Rattle.report.specs.Report.{told};
-ghost use Rattle.report.specs.Inner.{stepOf};
-use report_head::Turn;
+ghost use mathlib.Core.List.{_∷_, [], _++_};
+ghost use Prim.Native.Nat.{_+_, _≤_};
+ghost use lib.ListN.{length};
+ghost use Rattle.answer.specs.Answer.{Answer.refused};
+ghost use Rattle.records.specs.Record.{outcomeSaid};
+ghost use Rattle.report.specs.Text.{heading, cutLine, decimal, pairText, answerText, lineOf, countLine};
+ghost use Rattle.report.specs.Placed.{startOf, withText};
+ghost use Rattle.report.specs.Inner.{Put};
+ghost use Rattle.report.specs.Report.{printed, stepOf};
+use records::Outcome;
+use records::Turn;
 
-// Where the text that is told starts, which goes to the end of the lent buffer; how many records are counted then; and whether it is
-// the report's last.
+// Where the text that is printed starts, which goes to the end of the lent buffer; how many records are counted then;
+// and whether it is the report's last.
 pub struct Step {
     pub from: usize,
     pub records: u64,
     pub last: bool,
 }
 
-// What a header and the octets read after it come to, after n records.
-pub fn tell(n: u64, head: &[u8], body: &[u8], out: &mut [u8; 128]) -> Step
-    ensures { λ r. ⌜ r ≡ stepOf (told n (now (head .entry)) (now (body .entry))) ⌝ }
-    ensures { λ _. ⌜ now (out .exit) ≡ withText (told n (now (head .entry)) (now (body .entry)) .text) (now (out .entry)) ⌝ }
+// ---- text, put before a place of a buffer; each function answers where the text starts. A line is so made from its end, as the
+// digits of a number are, and nothing is copied.
+
+fn put_octet(out: &mut [u8], end: usize, x: u8) -> usize
+    requires { ⌜ (1 ≤ end) × (end ≤ length (now out)) ⌝ }
+    ensures { λ r. ⌜ Put (now (out .entry)) end (x ∷ []) r (now (out .exit)) ⌝ }
 {
-    match report_head::turn_after(n, head, body.len()) {
+    let at = end - 1;
+    out[at] = x;
+    at
+}
+
+fn put(out: &mut [u8], end: usize, word: &[u8]) -> usize
+    requires { ⌜ (length (now word) ≤ end) × (end ≤ length (now out)) ⌝ }
+    ensures { λ r. ⌜ Put (now (out .entry)) end (now (word .entry)) r (now (out .exit)) ⌝ }
+{
+    let from = end - word.len();
+    let mut i = 0;
+    while i < word.len() {
+        out[from + i] = word[i];
+        i += 1;
+    }
+    from
+}
+
+fn put_number(out: &mut [u8], end: usize, n: u64) -> usize
+    requires { ⌜ (20 ≤ end) × (end ≤ length (now out)) ⌝ }
+    ensures { λ r. ⌜ Put (now (out .entry)) end (decimal n) r (now (out .exit)) ⌝ }
+    ensures { λ r. ⌜ end ≤ r + 20 ⌝ }
+{
+    let base = end - 20;
+    let mut left: usize = 20;
+    let mut rest = n;
+    while 0 < left {
+        left -= 1;
+        out[base + left] = (48 + rest % 10) as u8;
+        rest /= 10;
+        if rest == 0 {
+            return base + left;
+        }
+    }
+    base
+}
+
+// A word and two numbers, which end the line.
+fn put_pair(out: &mut [u8], end: usize, word: &[u8], a: u32, b: u32) -> usize
+    requires { ⌜ (length (now word) + 42 ≤ end) × (end ≤ length (now out)) ⌝ }
+    ensures { λ r. ⌜ Put (now (out .entry)) end (pairText (now (word .entry)) a b) r (now (out .exit)) ⌝ }
+    ensures { λ r. ⌜ end ≤ r + length (now (word .entry)) + 42 ⌝ }
+{
+    let t = put_octet(out, end, b'\n');
+    let t = put_number(out, t, b as u64);
+    let t = put_octet(out, t, b' ');
+    let t = put_number(out, t, a as u64);
+    put(out, t, word)
+}
+
+fn put_outcome(out: &mut [u8], end: usize, o: Outcome) -> usize
+    requires { ⌜ (51 ≤ end) × (end ≤ length (now out)) ⌝ }
+    ensures { λ r. ⌜ Put (now (out .entry)) end (answerText (outcomeSaid o)) r (now (out .exit)) ⌝ }
+    ensures { λ r. ⌜ end ≤ r + 51 ⌝ }
+{
+    match o {
+        Outcome::Aes3 { a, b } => put_pair(out, end, b" aes3 ok ", a, b),
+        Outcome::Hd { group, dbn } => put_pair(out, end, b" hd ok ", group, dbn),
+        Outcome::Madi { active, syncs } => put_pair(out, end, b" madi ok ", active, syncs),
+        Outcome::Refused { number, place } => put_pair(out, end, b" refused ", number, place),
+    }
+}
+
+// The line of record n.
+fn put_line(out: &mut [u8], end: usize, n: u64, o: Outcome) -> usize
+    requires { ⌜ (71 ≤ end) × (end ≤ length (now out)) ⌝ }
+    ensures { λ r. ⌜ Put (now (out .entry)) end (lineOf n (outcomeSaid o)) r (now (out .exit)) ⌝ }
+{
+    let t = put_outcome(out, end, o);
+    put_number(out, t, n)
+}
+
+// The line that ends the report, at the end of the buffer.
+fn put_count(out: &mut [u8], n: u64) -> usize
+    requires { ⌜ length (now out) ≡ 128 ⌝ }
+    ensures { λ r. ⌜ Put (now (out .entry)) 128 (countLine n) r (now (out .exit)) ⌝ }
+    ensures { λ r. ⌜ 99 ≤ r ⌝ }
+{
+    let t = put_octet(out, 128, b'\n');
+    let t = put_number(out, t, n);
+    put(out, t, b"records ")
+}
+
+// ---- the report's texts, at the end of the lent buffer
+
+// The report's first line.
+pub fn begin(out: &mut [u8; 128]) -> usize
+    ensures { λ r. ⌜ r ≡ startOf heading ⌝ }
+    ensures { λ _. ⌜ now (out .exit) ≡ withText heading (now (out .entry)) ⌝ }
+{
+    put(out, 128, b"carrier report 1\n")
+}
+
+// The line of record n.
+fn record_line(n: u64, o: Outcome, out: &mut [u8; 128]) -> usize
+    ensures { λ r. ⌜ r ≡ startOf (lineOf n (outcomeSaid o)) ⌝ }
+    ensures { λ _. ⌜ now (out .exit) ≡ withText (lineOf n (outcomeSaid o)) (now (out .entry)) ⌝ }
+{
+    put_line(out, 128, n, o)
+}
+
+// The line that ends the report.
+fn count_line(n: u64, out: &mut [u8; 128]) -> usize
+    ensures { λ r. ⌜ r ≡ startOf (countLine n) ⌝ }
+    ensures { λ _. ⌜ now (out .exit) ≡ withText (countLine n) (now (out .entry)) ⌝ }
+{
+    put_count(out, n)
+}
+
+// That line behind the word that the input was cut.
+fn cut_short(n: u64, out: &mut [u8; 128]) -> usize
+    ensures { λ r. ⌜ r ≡ startOf (cutLine ++ countLine n) ⌝ }
+    ensures { λ _. ⌜ now (out .exit) ≡ withText (cutLine ++ countLine n) (now (out .entry)) ⌝ }
+{
+    let t = put_count(out, n);
+    put(out, t, b"cut\n")
+}
+
+// That line behind that of record n, which is too long.
+fn too_long(n: u64, out: &mut [u8; 128]) -> usize
+    ensures { λ r. ⌜ r ≡ startOf (lineOf n (refused 2 0) ++ countLine n) ⌝ }
+    ensures { λ _. ⌜ now (out .exit) ≡ withText (lineOf n (refused 2 0) ++ countLine n) (now (out .entry)) ⌝ }
+{
+    let t = put_count(out, n);
+    put_line(
+        out,
+        t,
+        n,
+        Outcome::Refused {
+            number: 2,
+            place: 0,
+        },
+    )
+}
+
+// ---- a record
+
+// What a header and the octets read after it come to, after n records.
+pub fn print(n: u64, head: &[u8], body: &[u8], out: &mut [u8; 128]) -> Step
+    ensures { λ r. ⌜ r ≡ stepOf (printed n (now (head .entry)) (now (body .entry))) ⌝ }
+    ensures { λ _. ⌜ now (out .exit) ≡ withText (printed n (now (head .entry)) (now (body .entry)) .text) (now (out .entry)) ⌝ }
+{
+    match records::turn_after(n, head, body.len()) {
         Turn::End(count) => Step {
-            from: report_text::count(count, out),
+            from: count_line(count, out),
             records: count,
             last: true,
         },
         Turn::Cut(count) => Step {
-            from: report_text::cut_short(count, out),
+            from: cut_short(count, out),
             records: count,
             last: true,
         },
         Turn::Long(count) => Step {
-            from: report_text::too_long(count, out),
+            from: too_long(count, out),
             records: count,
             last: true,
         },
         Turn::Record(count) => Step {
-            from: report_text::line(count, records::judge(body), out),
+            from: record_line(count, records::judge(body), out),
             records: count,
             last: false,
         },

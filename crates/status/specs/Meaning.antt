@@ -1,6 +1,6 @@
--- What bytes 0 to 2 of channel status mean: the tables of BS.647-3, part 3, 3.3.1 to 3.3.3, row by row. A state is written as there,
--- its highest bit at the left; the lowest is the one that is sent first. Assumes nothing.
-use Prim.Native.Nat.{ℕ, _-_, _/_, _%_, _^_}
+-- What bytes 0 to 2 of channel status mean: the tables of BS.647-3, part 3, 3.3.1 to 3.3.3, row by row. A state is
+-- written as there, its highest bit at the left; the lowest is the one that is sent first. Assumes nothing.
+use Prim.Native.Nat.{ℕ, _/_, _%_, _^_}
 use mathlib.Core.List.{List, [], _∷_}
 use lib.Dec.{eqb}
 use Rattle.bits.specs.Pick.{pick}
@@ -16,8 +16,8 @@ use Rattle.status.specs.declared.User.{User}
 use Rattle.status.specs.declared.User.the-variants as user
 use Rattle.status.specs.declared.Auxiliary.{Auxiliary}
 use Rattle.status.specs.declared.Auxiliary.the-variants as auxiliary
-use Rattle.status.specs.declared.Length.{Length}
-use Rattle.status.specs.declared.Length.the-variants as length
+use Rattle.status.specs.declared.WordLength.{WordLength}
+use Rattle.status.specs.declared.WordLength.the-variants as word
 use Rattle.status.specs.declared.Alignment.{Alignment}
 use Rattle.status.specs.declared.Alignment.the-variants as alignment
 use Rattle.status.specs.declared.Description.{Description}
@@ -29,36 +29,40 @@ use Rattle.status.specs.declared.Use.the-variants.{Consumer, Professiona
 abbrev pub field : ℕ → ℕ → ℕ → ℕ
 field k n octet = octet / 2 ^ k % 2 ^ n
 
--- the meaning that a table lists for a state, else that of all other states; where a table has a row for every state, its last row
--- is the one for what is left
-unfoldable pub listed : {A : Type 0} → List (ℕ × A) → A → ℕ → A
-listed [] other x = other
-listed (row ∷ rows) other x = pick (eqb x (row .0)) (row .1) (listed rows other x)
+-- the meaning that a table has for a state, else that of all other states. Where a table has a row for every state of
+-- its field, the meaning of all others is given to no state.
+unfoldable pub inTable : {A : Type 0} → List (ℕ × A) → A → ℕ → A
+inTable [] other x = other
+inTable (row ∷ rows) other x = pick (eqb x (row .0)) (row .1) (inTable rows other x)
 
 -- ---- byte 0
 
 -- bits 4 3 2
 unfoldable pub emphasisOf : ℕ → Emphasis
 emphasisOf x =
-    listed
+    inTable
     ((0b000, emphasis.NotIndicated) ∷ (0b001, emphasis.NoEmphasis) ∷ (0b011, emphasis.Micros50) ∷ (0b111, emphasis.J17) ∷ [])
     (emphasis.Reserved x)
     x
 
 -- bit 5
 unfoldable pub lockOf : ℕ → Lock
-lockOf x = listed ((0b0, lock.NotIndicated) ∷ []) lock.Unlocked x
+lockOf x = inTable ((0b0, lock.NotIndicated) ∷ (0b1, lock.Unlocked) ∷ []) lock.NotIndicated x
 
 -- bits 7 6
 unfoldable pub rateOf : ℕ → Rate
-rateOf x = listed ((0b00, rate.NotIndicated) ∷ (0b10, rate.Hz48000) ∷ (0b01, rate.Hz44100) ∷ []) rate.Hz32000 x
+rateOf x =
+    inTable
+    ((0b00, rate.NotIndicated) ∷ (0b10, rate.Hz48000) ∷ (0b01, rate.Hz44100) ∷ (0b11, rate.Hz32000) ∷ [])
+    rate.NotIndicated
+    x
 
 -- ---- byte 1
 
 -- bits 3 2 1 0
 unfoldable pub modeOf : ℕ → Mode
 modeOf x =
-    listed
+    inTable
     ((0b0000, mode.NotIndicated)
     ∷ (0b1000, mode.TwoChannel)
     ∷ (0b0100, mode.SingleChannel)
@@ -77,7 +81,7 @@ modeOf x =
 -- bits 7 6 5 4
 unfoldable pub userOf : ℕ → User
 userOf x =
-    listed
+    inTable
     ((0b0000, user.NotIndicated)
     ∷ (0b1000, user.Block192)
     ∷ (0b0100, user.Aes18)
@@ -94,7 +98,7 @@ userOf x =
 -- bits 2 1 0
 unfoldable pub auxiliaryOf : ℕ → Auxiliary
 auxiliaryOf x =
-    listed
+    inTable
     ((0b000, auxiliary.NotDefined)
     ∷ (0b100, auxiliary.MainAudio)
     ∷ (0b010, auxiliary.Coordination)
@@ -103,34 +107,48 @@ auxiliaryOf x =
     (auxiliary.Reserved x)
     x
 
--- bits 5 4 3, where the longest word has `most` bits
-unfoldable pub lengthUpTo : ℕ → ℕ → Length
-lengthUpTo most x =
-    listed
-    ((0b000, length.NotIndicated)
-    ∷ (0b100, length.Bits (most - 1))
-    ∷ (0b010, length.Bits (most - 2))
-    ∷ (0b110, length.Bits (most - 3))
-    ∷ (0b001, length.Bits (most - 4))
-    ∷ (0b101, length.Bits most)
+-- bits 5 4 3, where the maximum is 24 bits
+unfoldable pub wordLengthUpTo24 : ℕ → WordLength
+wordLengthUpTo24 x =
+    inTable
+    ((0b000, word.NotIndicated)
+    ∷ (0b100, word.Bits 23)
+    ∷ (0b010, word.Bits 22)
+    ∷ (0b110, word.Bits 21)
+    ∷ (0b001, word.Bits 20)
+    ∷ (0b101, word.Bits 24)
     ∷ [])
-    (length.Reserved x)
+    (word.Reserved x)
     x
 
--- the longest word is of 24 or of 20 bits by the use of the auxiliary bits; under a reserved or user-defined use, reserved
-unfoldable pub lengthOf : Auxiliary → ℕ → Length
-lengthOf auxiliary.NotDefined x = lengthUpTo 20 x
-lengthOf auxiliary.MainAudio x = lengthUpTo 24 x
-lengthOf auxiliary.Coordination x = lengthUpTo 20 x
-lengthOf auxiliary.UserDefined x = length.Reserved x
-lengthOf (auxiliary.Reserved y) x = length.Reserved x
+-- the same bits, where the maximum is 20 bits
+unfoldable pub wordLengthUpTo20 : ℕ → WordLength
+wordLengthUpTo20 x =
+    inTable
+    ((0b000, word.NotIndicated)
+    ∷ (0b100, word.Bits 19)
+    ∷ (0b010, word.Bits 18)
+    ∷ (0b110, word.Bits 17)
+    ∷ (0b001, word.Bits 16)
+    ∷ (0b101, word.Bits 20)
+    ∷ [])
+    (word.Reserved x)
+    x
+
+-- the maximum is by the use of the auxiliary bits; under a reserved or user-defined use, reserved
+unfoldable pub wordLengthOf : Auxiliary → ℕ → WordLength
+wordLengthOf auxiliary.NotDefined x = wordLengthUpTo20 x
+wordLengthOf auxiliary.MainAudio x = wordLengthUpTo24 x
+wordLengthOf auxiliary.Coordination x = wordLengthUpTo20 x
+wordLengthOf auxiliary.UserDefined x = word.Reserved x
+wordLengthOf (auxiliary.Reserved y) x = word.Reserved x
 
 -- bits 7 6
 unfoldable pub alignmentOf : ℕ → Alignment
 alignmentOf x =
-    listed
-    ((0b00, alignment.NotIndicated) ∷ (0b10, alignment.Rp155) ∷ (0b01, alignment.R68) ∷ [])
-    (alignment.Reserved x)
+    inTable
+    ((0b00, alignment.NotIndicated) ∷ (0b10, alignment.Rp155) ∷ (0b01, alignment.R68) ∷ (0b11, alignment.Reserved 0b11) ∷ [])
+    alignment.NotIndicated
     x
 
 -- ---- the three bytes
@@ -144,7 +162,7 @@ describedBy byte0 byte1 byte2 =
       mode = modeOf (field 0 4 byte1);
       user = userOf (field 4 4 byte1);
       auxiliary = auxiliaryOf (field 0 3 byte2);
-      length = lengthOf (auxiliaryOf (field 0 3 byte2)) (field 3 3 byte2);
+      «word_length» = wordLengthOf (auxiliaryOf (field 0 3 byte2)) (field 3 3 byte2);
       alignment = alignmentOf (field 6 2 byte2);
     }
 

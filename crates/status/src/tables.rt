@@ -1,15 +1,14 @@
 // The tables of BS.647-3, part 3, 3.3.1 to 3.3.3. A state is written as there, its highest bit at the left.
 ghost use mathlib.Core.Path.{_≡_};
-ghost use Prim.Native.Nat.{_≤_};
-ghost use Rattle.status.specs.Meaning.{emphasisOf, lockOf, rateOf, modeOf, userOf, auxiliaryOf, lengthUpTo, lengthOf, alignmentOf};
+ghost use Rattle.status.specs.Meaning.{emphasisOf, lockOf, rateOf, modeOf, userOf, auxiliaryOf, wordLengthUpTo24, wordLengthUpTo20, wordLengthOf, alignmentOf};
 use crate::Alignment;
 use crate::Auxiliary;
 use crate::Emphasis;
-use crate::Length;
 use crate::Lock;
 use crate::Mode;
 use crate::Rate;
 use crate::User;
+use crate::WordLength;
 
 pub fn emphasis_of(bits: u8) -> Emphasis
     ensures { λ r. ⌜ r ≡ emphasisOf bits ⌝ }
@@ -28,7 +27,8 @@ pub fn lock_of(bit: u8) -> Lock
 {
     match bit {
         0b0 => Lock::NotIndicated,
-        _ => Lock::Unlocked,
+        0b1 => Lock::Unlocked,
+        _ => Lock::NotIndicated,
     }
 }
 
@@ -39,7 +39,8 @@ pub fn rate_of(bits: u8) -> Rate
         0b00 => Rate::NotIndicated,
         0b10 => Rate::Hz48000,
         0b01 => Rate::Hz44100,
-        _ => Rate::Hz32000,
+        0b11 => Rate::Hz32000,
+        _ => Rate::NotIndicated,
     }
 }
 
@@ -89,31 +90,43 @@ pub fn auxiliary_of(bits: u8) -> Auxiliary
     }
 }
 
-// Where the longest word has `most` bits.
-fn length_up_to(most: u8, bits: u8) -> Length
-    requires { ⌜ 4 ≤ most ⌝ }
-    ensures { λ r. ⌜ r ≡ lengthUpTo most bits ⌝ }
+fn word_length_up_to_24(bits: u8) -> WordLength
+    ensures { λ r. ⌜ r ≡ wordLengthUpTo24 bits ⌝ }
 {
     match bits {
-        0b000 => Length::NotIndicated,
-        0b100 => Length::Bits(most - 1),
-        0b010 => Length::Bits(most - 2),
-        0b110 => Length::Bits(most - 3),
-        0b001 => Length::Bits(most - 4),
-        0b101 => Length::Bits(most),
-        _ => Length::Reserved(bits),
+        0b000 => WordLength::NotIndicated,
+        0b100 => WordLength::Bits(23),
+        0b010 => WordLength::Bits(22),
+        0b110 => WordLength::Bits(21),
+        0b001 => WordLength::Bits(20),
+        0b101 => WordLength::Bits(24),
+        _ => WordLength::Reserved(bits),
     }
 }
 
-pub fn length_of(auxiliary: Auxiliary, bits: u8) -> Length
-    ensures { λ r. ⌜ r ≡ lengthOf auxiliary bits ⌝ }
+fn word_length_up_to_20(bits: u8) -> WordLength
+    ensures { λ r. ⌜ r ≡ wordLengthUpTo20 bits ⌝ }
+{
+    match bits {
+        0b000 => WordLength::NotIndicated,
+        0b100 => WordLength::Bits(19),
+        0b010 => WordLength::Bits(18),
+        0b110 => WordLength::Bits(17),
+        0b001 => WordLength::Bits(16),
+        0b101 => WordLength::Bits(20),
+        _ => WordLength::Reserved(bits),
+    }
+}
+
+pub fn word_length_of(auxiliary: Auxiliary, bits: u8) -> WordLength
+    ensures { λ r. ⌜ r ≡ wordLengthOf auxiliary bits ⌝ }
 {
     match auxiliary {
-        Auxiliary::MainAudio => length_up_to(24, bits),
-        Auxiliary::NotDefined => length_up_to(20, bits),
-        Auxiliary::Coordination => length_up_to(20, bits),
-        Auxiliary::UserDefined => Length::Reserved(bits),
-        Auxiliary::Reserved(_) => Length::Reserved(bits),
+        Auxiliary::MainAudio => word_length_up_to_24(bits),
+        Auxiliary::NotDefined => word_length_up_to_20(bits),
+        Auxiliary::Coordination => word_length_up_to_20(bits),
+        Auxiliary::UserDefined => WordLength::Reserved(bits),
+        Auxiliary::Reserved(_) => WordLength::Reserved(bits),
     }
 }
 
@@ -124,6 +137,7 @@ pub fn alignment_of(bits: u8) -> Alignment
         0b00 => Alignment::NotIndicated,
         0b10 => Alignment::Rp155,
         0b01 => Alignment::R68,
-        _ => Alignment::Reserved(bits),
+        0b11 => Alignment::Reserved(0b11),
+        _ => Alignment::NotIndicated,
     }
 }

@@ -1,5 +1,6 @@
-// Reports on whole inputs, each walked from its start through the library, as the report program reads: what one stream cannot hold,
-// since each of these ends its reading. The file `stdout` is what tests/second/trial_report.c prints.
+// Reports on whole inputs, each walked from its start through the library, as the report program reads: what one
+// stream cannot hold, since each of these ends its reading. The file `stdout` is what tests/second/trial_report.c
+// prints.
 ghost use Prim.Native.Nat.{_≤_};
 
 fn least(a: usize, b: usize) -> usize
@@ -10,15 +11,15 @@ fn least(a: usize, b: usize) -> usize
 
 fn run(input: &[u8]) {
     let mut out = [0u8; 128];
-    let start = report_text::begin(&mut out);
+    let start = report::begin(&mut out);
     io::write_all(1, &out[start..]);
     let mut n: u64 = 0;
     let mut at: usize = 0;
     loop {
         let body = at + least(input.len() - at, 4);
-        let size = report_head::to_read(&input[at..body]);
+        let size = records::body_size(&input[at..body]);
         let end = body + least(input.len() - body, size);
-        let step = report::tell(n, &input[at..body], &input[body..end], &mut out);
+        let step = report::print(n, &input[at..body], &input[body..end], &mut out);
         let from = step.from;
         io::write_all(1, &out[from..]);
         if step.last {

@@ -1,15 +1,15 @@
--- `aes3_read::decode` meets its contract. The loop's invariant: the bodies found, in front of what reading the rest gives, are what reading the
--- whole gives; the level before a subframe is that before the block. Assumes nothing.
+-- `aes3_read::decode` meets its contract. The loop's invariant: the bodies found, in front of what reading the rest
+-- gives, are what reading the whole gives; the level before a subframe is that before the block. Assumes nothing.
 use mathlib.Core.Path.{_≡_, sym, ap, _∙_}
 use Prim.Native.Nat.{_*_, _-_, _/_, _≤_, _<_}
 use native.Mathlib.Omega.{arith}
 use borrow.Author.Needs.{needs}
 use lib.ListN.{length, take, drop, getD, length-set}
 use Rattle.bits.specs.Row.{odd}
-use Rattle.aes3_code.specs.Subframe.{subframeNumber}
-use Rattle.aes3_code.specs.Line.{bodiesFrom, bodiesOn}
-use Rattle.aes3_read.specs.Inner.{decoded}
-use Rattle.aes3_read.proofs.Decoding.{level-start, front, front-none, read-turn, read-stop, read-done}
+use Rattle.answer.specs.Answer.{Answer, mapped, verdict}
+use Rattle.answer.specs.Said.{numberSaid}
+use Rattle.aes3_line.specs.Line.{bodiesFrom, bodiesOn}
+use Rattle.aes3_line.proofs.Turns.{level-start, front, read-start, read-turn, read-stop, read-done}
 use Rattle.aes3_read.proofs.decode.Statement.{statement}
 use Rattle.aes3_read.proofs.decode.Tie as tie
 
@@ -30,14 +30,13 @@ sub-level : tie.Need-sub-level Inv-loop μ-loop
 sub-level c = omega (arith, c .shared-slice-known3 .given 0)
 
 loop-holds : tie.Need-loop-holds Inv-loop μ-loop
-unfolding bodiesOn
 loop-holds c =
     let line = c .before .before .before .before .args .line .now in
     let octet : getD line 0 0 < 256 = omega (arith, c .shared-slice-known3 .given 0) in (
       omega arith,
       c .before .before .before .before .pre .2,
       omega arith,
-      front-none _ ∙ ap (λ l. bodiesFrom 384 0 l line) (level-start line (omega arith) octet),
+      read-start line _ (level-start line (omega arith) octet),
     )
 
 mul-a : tie.Need-mul-a Inv-loop μ-loop
@@ -64,11 +63,8 @@ enum-known-answer c = search needs
 enum-told : tie.Need-enum-told Inv-loop μ-loop
 enum-told c = search needs
 
-number-requires : tie.Need-number-requires Inv-loop μ-loop
-number-requires c κs = search needs
-
-cast-t20 : tie.Need-cast-t20 Inv-loop μ-loop
-cast-t20 c = omega arith
+without-body-requires : tie.Need-without-body-requires Inv-loop μ-loop
+without-body-requires c κs = search needs
 
 same-length : tie.Need-same-length Inv-loop μ-loop
 same-length c =
@@ -77,14 +73,15 @@ same-length c =
     loop .inv .1 ∙ sym (start .pre .2)
 
 returns : tie.Need-returns Inv-loop μ-loop
-unfolding decoded
 returns c =
     let start = c .before .before .before .before .before .before .before .before .before .before .before in
     let loop = c .before .before .before .before .before .before .loop in
     let told = c .before .enum-told .given in
     let read = c .before .before .before .read-subframe in
-    let n : c .number .result ≡ told .0 .0 = c .number .ensures ∙ ap subframeNumber (told .1) in
-    rw n (read-stop (start .args .line .now) (loop .i) (1 - getD (start .args .line .now) 0 0 / 128) (omega arith) (omega arith) (loop .bodies) _ _ (sym (read .ensures) ∙ told .1) (loop .inv .3))
+    let said = c .without-body .ensures ∙ ap (λ a. verdict (numberSaid a)) (told .1) in
+    ap (mapped (λ u. loop .bodies)) said
+    ∙ read-stop (start .args .line .now) (loop .i) (1 - getD (start .args .line .now) 0 0 / 128) (omega arith) (omega arith) (loop .bodies) _ _ _
+    (sym (read .ensures) ∙ ap numberSaid (told .1)) (loop .inv .3)
 
 mul-bodies : tie.Need-mul-bodies Inv-loop μ-loop
 mul-bodies c = omega arith
@@ -107,14 +104,13 @@ loop-again c =
       omega arith,
       simp length-set (loop .inv .1),
       loop .inv .2,
-      read-turn (start .args .line .now) (loop .i) (1 - getD (start .args .line .now) 0 0 / 128) (omega arith) (omega arith) (loop .bodies) _ _ (omega arith) (sym (read .ensures) ∙ told .1) (loop .inv .3),
+      read-turn (start .args .line .now) (loop .i) (1 - getD (start .args .line .now) 0 0 / 128) (omega arith) (omega arith) (loop .bodies) _ _ (omega arith) (sym (read .ensures) ∙ ap numberSaid (told .1)) (loop .inv .3),
     )
 
 same-length-2 : tie.Need-same-length-2 Inv-loop μ-loop
 same-length-2 c = c .before .loop .inv .1 ∙ sym (c .before .before .before .before .before .before .pre .2)
 
 returns-2 : tie.Need-returns-2 Inv-loop μ-loop
-unfolding decoded
 returns-2 c =
     let start = c .before .before .before .before .before .before in
     let loop = c .before .loop in
@@ -138,8 +134,7 @@ decode-spec =
     read-subframe-requires
     enum-known-answer
     enum-told
-    number-requires
-    cast-t20
+    without-body-requires
     same-length
     returns
     mul-bodies

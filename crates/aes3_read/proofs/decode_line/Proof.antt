@@ -1,6 +1,6 @@
 -- `aes3_read::decode_line` meets its contract: the table is as it should be. Assumes nothing.
 use borrow.Author.Needs.{needs}
-use Rattle.aes3_read.proofs.HeldTable.{helds, helds-right}
+use Rattle.aes3_read.proofs.HeldTable.{table-right}
 use Rattle.aes3_read.proofs.decode_line.Statement.{statement}
 use Rattle.aes3_read.proofs.decode_line.Tie as tie
 
@@ -8,10 +8,9 @@ slice-aggregate-decode : tie.Need-slice-aggregate-decode
 slice-aggregate-decode c = search needs
 
 decode-requires : tie.Need-decode-requires
-unfolding helds
 decode-requires c κs =
     let start = c .before .before .before .before in
-    (helds-right, start .pre .0, start .pre .1)
+    (table-right, start .pre .0, start .pre .1)
 
 same-length : tie.Need-same-length
 same-length c = search needs

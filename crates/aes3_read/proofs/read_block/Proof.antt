@@ -1,34 +1,54 @@
--- `aes3_read::read_block` meets its contract: the tests and what decoding gave pick the case of `blockRead`. Assumes nothing.
-use mathlib.Core.Path.{_≡_, refl}
-use native.Mathlib.Omega.{arith}
-use borrow.Author.Tests.{eq-eqb, ne-eqb}
-use lib.ListN.{length}
-use Rattle.aes3_code.specs.Line.{LineRead.All, LineRead.Stopped, bodiesOn}
-use Rattle.aes3_read.specs.Reader.{blockRead, readAnswer, samplesRead, sideRead}
-use Rattle.aes3_read.specs.Inner.{decoded}
-use Rattle.aes3_read.proofs.BlockReading.{stopped, whole}
+-- `aes3_read::read_block` meets its contract: each return says which demand stops, or what the subframes gave. Assumes
+-- nothing.
+use mathlib.Core.Path.{_≡_, sym, ap, _∙_}
+use mathlib.Core.List.{List}
+use Prim.Native.Nat.{ℕ}
 use borrow.Author.Needs.{needs}
+use borrow.Author.Tests.{eq-eqb, ne-eqb}
+use lib.IntN.{ℤ}
+use lib.ListN.{length}
+use Rattle.answer.specs.Answer.{Answer, Answer.accepted, Answer.refused}
+use Rattle.answer.specs.Demand.Stops.{fails, later}
+use Rattle.block.specs.Side.{sideLength}
+use Rattle.aes3_line.specs.Line.{bodiesOn}
+use Rattle.aes3_read.specs.Inner.{decoded}
+use Rattle.aes3_read.proofs.BlockReading.{shows-stop, shows-refused, shows-read}
 use Rattle.aes3_read.proofs.read_block.Statement.{statement}
 use Rattle.aes3_read.proofs.read_block.Tie as tie
 
+-- the lengths are right
+module _ (c : tie.Else3) where
+  abbrev start : tie.Start
+  start = c .before .before .before .before .before
+
+  abbrev line : List ℕ
+  line = start .args .line .now
+
+  abbrev samples : List ℤ
+  samples = start .args .samples .now
+
+  abbrev side : List ℕ
+  side = start .args .side .now
+
+  nl : length line ≡ 3072
+  nl = c .before .before .if1 .left
+
+  ns : length samples ≡ 384
+  ns = c .before .if2 .left
+
+  nt : length side ≡ sideLength
+  nt = c .if3 .left
+
 returns : tie.Need-returns
-unfolding readAnswer samplesRead sideRead blockRead
-returns c = simp (ne-eqb _ _ (c .if1 .taken)) (refl, (refl, refl))
+returns c = shows-stop _ _ _ (fails (ne-eqb _ 3072 (c .if1 .taken)))
 
 returns-2 : tie.Need-returns-2
-unfolding readAnswer samplesRead sideRead blockRead
-returns-2 c =
-    let a = c .before .before .before .before .args in
-    let nl : length (a .line .now) ≡ 3072 = omega arith in
-    simp (eq-eqb _ _ nl, ne-eqb _ _ (c .if2 .taken)) (refl, (refl, refl))
+returns-2 c = shows-stop _ _ _ (later (eq-eqb _ 3072 (c .before .if1 .left)) (fails (ne-eqb _ 384 (c .if2 .taken))))
 
 returns-3 : tie.Need-returns-3
-unfolding readAnswer samplesRead sideRead blockRead
 returns-3 c =
-    let a = c .before .before .before .before .before .args in
-    let nl : length (a .line .now) ≡ 3072 = omega arith in
-    let ns : length (a .samples .now) ≡ 384 = omega arith in
-    simp (eq-eqb _ _ nl, eq-eqb _ _ ns, ne-eqb _ _ (c .if3 .taken)) (refl, (refl, refl))
+    shows-stop _ _ _
+    (later (eq-eqb _ 3072 (c .before .before .if1 .left)) (later (eq-eqb _ 384 (c .before .if2 .left)) (fails (ne-eqb _ sideLength (c .if3 .taken)))))
 
 slice-aggregate-decode-line : tie.Need-slice-aggregate-decode-line
 slice-aggregate-decode-line c = search needs
@@ -40,15 +60,12 @@ enum-known-got : tie.Need-enum-known-got
 enum-known-got c = search needs
 
 returns-4 : tie.Need-returns-4
-unfolding decoded
 returns-4 c =
-    let a = c .before .before .before .before .before .before .before .before .before .before .before .args in
+    let read = c .before .before .before .before in
+    let t = read .before .before in
     let got = c .before .got .given in
-    let nl : length (a .line .now) ≡ 3072 = omega arith in
-    let ns : length (a .samples .now) ≡ 384 = omega arith in
-    let nt : length (a .side .now) ≡ 144 = omega arith in
-    let e : Stopped (got .0 .0) (got .0 .1 .0) ≡ bodiesOn (a .line .now) = rw (got .1) at (c .before .before .before .before .decode-line .ensures) in
-    stopped (a .line .now) (a .samples .now) (a .side .now) nl ns nt (got .0 .0) (got .0 .1 .0) e
+    let e : refused (got .0 .0) (got .0 .1 .0) ≡ bodiesOn (line t) = rw (got .1) at (read .decode-line .ensures) in
+    shows-refused (line t) (samples t) (side t) (nl t) (ns t) (nt t) (got .0 .0) (got .0 .1 .0) e
 
 enum-told : tie.Need-enum-told
 enum-told c = search needs
@@ -72,18 +89,17 @@ same-length-2 : tie.Need-same-length-2
 same-length-2 c = search needs
 
 returns-5 : tie.Need-returns-5
-unfolding decoded
 returns-5 c =
-    let a = c .before .before .before .before .before .before .before .before .before .before .before .before .before .before .before .before .before .before .before .before .before .args in
-    let nl : length (a .line .now) ≡ 3072 = omega arith in
-    let ns : length (a .samples .now) ≡ 384 = omega arith in
-    let nt : length (a .side .now) ≡ 144 = omega arith in
-    let read = c .before .before .before .before .before .before .before .before .before .before .before .before .before .before .decode-line in
-    let fill = c .before .before .before .before .before .before .before .fill-block in
-    let n : length (read .last .1 .0) ≡ 384 = search needs in
-    let e : All (read .last .1 .0) ≡ bodiesOn (a .line .now) = rw (c .before .before .before .before .before .before .before .before .before .before .before .enum-told .given .1) at (read .ensures) in
-    whole (a .line .now) (a .samples .now) (a .side .now) nl ns nt (read .last .1 .0) (fill .last .1 .0) (fill .last .1 .1 .0)
-    (c .before .before .crcc .result) (c .crcc2 .result) n e (fill .ensures .1 .0) (fill .ensures .1 .1) (c .before .before .crcc .ensures) (c .crcc2 .ensures)
+    let fill = c .before .before .before .before .before .before .before in
+    let told = fill .before .before .before .before in
+    let read = told .before .before .before in
+    let t = read .before .before in
+    let bodies = read .decode-line .last .1 .0 in
+    let n : length bodies ≡ 384 = search needs in
+    let e : accepted bodies ≡ bodiesOn (line t) = rw (told .enum-told .given .1) at (read .decode-line .ensures) in
+    let f = fill .fill-block in
+    shows-read (line t) (samples t) (side t) (nl t) (ns t) (nt t) bodies (f .last .1 .0) (f .last .1 .1 .0) (c .before .before .crcc .result)
+    (c .crcc2 .result) n e (f .ensures .1 .0) (f .ensures .1 .1) (c .before .before .crcc .ensures) (c .crcc2 .ensures)
 
 pub read-block-spec : {M : Type 1} → statement M
 read-block-spec =

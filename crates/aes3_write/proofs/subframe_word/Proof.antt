@@ -1,6 +1,6 @@
 -- `aes3_write::subframe_word` meets its contract: the preamble and the slots side by side. Assumes nothing.
 use borrow.Author.Needs.{needs}
-use Rattle.aes3_write.proofs.Bodies.{word-with}
+use Rattle.aes3_write.proofs.Writing.{word-with}
 use Rattle.aes3_write.proofs.subframe_word.Statement.{statement}
 use Rattle.aes3_write.proofs.subframe_word.Tie as tie
 
@@ -37,9 +37,6 @@ add-result-3 c = search needs
 mul-result-4 : tie.Need-mul-result-4
 mul-result-4 c = search needs
 
-mul-result-5 : tie.Need-mul-result-5
-mul-result-5 c = search needs
-
 add-result-4 : tie.Need-add-result-4
 add-result-4 c = search needs
 
@@ -51,7 +48,7 @@ returns c =
     let b = r .before .eight2 in
     let d = r .eight3 in
     let e = c .eight4 in
-    word-with (start .args .word) (start .args .m) (a .result) (b .result) (d .result) (e .result) (start .pre .2) (start .pre .1)
+    word-with (start .args .body) (start .args .m) (a .result) (b .result) (d .result) (e .result) (start .pre .1)
     (a .ensures .0) (b .ensures .0) (d .ensures .0) (e .ensures .0)
 
 pub subframe-word-spec : {M : Type 1} → statement M
@@ -69,6 +66,5 @@ subframe-word-spec =
     mul-result-3
     add-result-3
     mul-result-4
-    mul-result-5
     add-result-4
     returns)

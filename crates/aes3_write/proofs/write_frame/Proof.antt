@@ -6,7 +6,7 @@ use Prim.Native.Nat.{ℕ}
 use lib.ListN.{length}
 use Rattle.bits.specs.Row.{odd, big}
 use Rattle.bits.proofs.Packing.{length-pack}
-use Rattle.aes3_write.specs.Inner.{opened, bodyWith}
+use Rattle.aes3_write.specs.Inner.{opened}
 use Rattle.aes3_write.proofs.LineWriting.{halves-laid}
 use Rattle.aes3_write.proofs.write_frame.Statement.{statement}
 use Rattle.aes3_write.proofs.write_frame.Tie as tie
@@ -22,6 +22,9 @@ part-write-subframe-end c = search needs
 
 write-subframe-requires : tie.Need-write-subframe-requires
 write-subframe-requires c κs = search needs
+
+cast-write-subframe : tie.Need-cast-write-subframe
+cast-write-subframe c = search needs
 
 sub-write-subframe-2 : tie.Need-sub-write-subframe-2
 sub-write-subframe-2 c = search needs
@@ -46,8 +49,8 @@ returns c =
     let a = start .args in
     let o = first .write-subframe .last .1 .1 .1 .1 .0 in
     let p = second .write-subframe2 .last .1 .1 .1 .1 .0 in
-    let m = ap length (first .write-subframe .ensures) ∙ length-pack big 8 8 (opened (a .m) (odd (a .level)) (bodyWith (a .a))) in
-    halves-laid (a .part .now) o p (start .pre .5) m
+    let m = ap length (first .write-subframe .ensures) ∙ length-pack big 8 8 (opened (a .m) (odd (a .level)) (a .a)) in
+    halves-laid (a .part .now) o p (start .pre .3) m
     ∙ ap₂ (λ (x y : List ℕ). x ++ y) (first .write-subframe .ensures) (second .write-subframe2 .ensures)
 
 pub write-frame-spec : {M : Type 1} → statement M
@@ -58,6 +61,7 @@ write-frame-spec =
     part-write-subframe-start
     part-write-subframe-end
     write-subframe-requires
+    cast-write-subframe
     sub-write-subframe-2
     part-write-subframe-start-2
     part-write-subframe-end-2

@@ -1,5 +1,5 @@
--- `aes3_write::write_line` meets its contract. The loop's invariant: the octets written, followed by those of the bodies that are left, are the
--- whole line. Assumes nothing.
+-- `aes3_write::write_line` meets its contract. The loop's invariant: the octets written, followed by those of the
+-- bodies that are left, are the whole line. Assumes nothing.
 use mathlib.Core.Path.{_≡_, refl, _∙_}
 use mathlib.Core.List.{_++_}
 use Prim.Native.Nat.{ℕ, _+_, _-_, _*_, _≤_, _<_}
@@ -9,9 +9,10 @@ use borrow.Rule.Slice.PartMut.{same-len-mid}
 use lib.ListN.{length, take, drop, length-take, length-drop}
 use Rattle.bits.specs.Row.{odd}
 use Rattle.bits.proofs.Filling.{filled-part}
+use Rattle.block.specs.Side.{columnLength}
 use Rattle.block.specs.Block.{bodiesOf}
 use Rattle.block.proofs.BlockLaws.{length-bodies}
-use Rattle.aes3_code.specs.Line.{lineFrom}
+use Rattle.aes3_line.specs.Line.{lineFrom}
 use Rattle.aes3_write.specs.Writer.{blockLine}
 use Rattle.aes3_write.proofs.LineWriting.{all-written}
 use Rattle.aes3_write.proofs.write_line.Statement.{statement}
@@ -19,12 +20,12 @@ use Rattle.aes3_write.proofs.write_line.Tie as tie
 
 abbrev Inv-loop : tie.InvT-loop
 Inv-loop table spreads samples side level line₀ j₀ line j =
-    (j ≤ 24)
+    (j ≤ columnLength)
     × (length line ≡ 3072)
     × (take (j * 128) line ++ lineFrom (16 * j) (odd level) (drop (16 * j) (bodiesOf samples side)) ≡ blockLine samples side level)
 
 abbrev μ-loop : tie.MeasureT-loop
-μ-loop table spreads samples side level line₀ j₀ line j = 24 - j
+μ-loop table spreads samples side level line₀ j₀ line j = columnLength - j
 
 loop-holds : tie.Need-loop-holds Inv-loop μ-loop
 unfolding blockLine
@@ -67,7 +68,7 @@ loop-again c =
     let kept = wrote .kept .1 .1 .1 .1 .1 .1 .0 in
     let bodies = bodiesOf (a .samples .now) (a .side .now) in
     let rest = lineFrom (16 * loop .j + 16) (odd (a .level)) (drop (16 * loop .j + 16) bodies) in
-    let t : loop .j < 24 = c .before .before .before .before .loop-test .taken in
+    let t : loop .j < columnLength = c .before .before .before .before .loop-test .taken in
     let k : loop .j * 128 + 128 - loop .j * 128 ≡ 128 = omega arith in
     let z : length o ≡ 128 = kept ∙ rw (k, length-take, length-drop) (omega arith) in
     let e : 16 * (loop .j + 1) ≡ 16 * loop .j + 16 = omega arith in

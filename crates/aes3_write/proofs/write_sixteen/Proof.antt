@@ -1,6 +1,7 @@
--- `aes3_write::write_sixteen` meets its contract. The loop's invariant: the octets written, with the rest of the line behind them, are the line from
--- the first of the sixteen on; the next preamble, and V, U and C of the subframes that are left, stand ready. Assumes nothing.
-use mathlib.Core.Path.{_≡_, refl, sym, ap, ap₂, _∙_}
+-- `aes3_write::write_sixteen` meets its contract. The loop's invariant: the octets written, with the rest of the line
+-- behind them, are the line from the first of the sixteen on; the next preamble, and V, U and C of the subframes that
+-- are left, stand ready. Assumes nothing.
+use mathlib.Core.Path.{_≡_, refl, sym, ap, ap₂, _∙_, subst}
 use mathlib.Core.Bool.{true}
 use mathlib.Core.List.{List, _++_}
 use Prim.Native.Nat.{ℕ, suc, _+_, _-_, _*_, _/_, _%_, _≤_, _<_}
@@ -13,16 +14,16 @@ use lib.Seq.{take-all}
 use Rattle.bits.specs.Row.{Row, odd, big}
 use Rattle.bits.specs.Pack.{octets}
 use Rattle.subframe.specs.Signed.{inRange, codeOf}
+use Rattle.subframe.specs.Body.{Proper}
 use Rattle.block.specs.Block.{bodiesOf}
-use Rattle.block.proofs.BlockLaws.{length-bodies, getD-bodies}
-use Rattle.block_check.proofs.CheckLaws.{sound-passes}
-use Rattle.aes3_code.specs.Subframe.{due, subframe}
-use Rattle.aes3_code.specs.Line.{lineFrom}
+use Rattle.block.proofs.BlockLaws.{length-bodies, getD-bodies, proper}
+use Rattle.block.proofs.CheckLaws.{sound-passes}
+use Rattle.aes3_line.specs.Subframe.{due, subframe}
+use Rattle.aes3_line.specs.Line.{lineFrom}
 use Rattle.aes3_write.specs.Inner.{opened, bodyWith, flags, flagsFrom}
-use Rattle.aes3_code.proofs.Preambles.{due-lt, due-even, due-odd}
+use Rattle.aes3_line.proofs.Preambles.{due-lt, due-even, due-odd}
 use Rattle.aes3_write.proofs.Writing.{opened-due}
 use Rattle.aes3_write.proofs.LineWriting.{frame-turn}
-use Rattle.aes3_write.proofs.Bodies.{proper-with}
 use Rattle.aes3_write.proofs.Flags.{flags-frame, body-with}
 use Rattle.aes3_write.proofs.write_sixteen.Statement.{statement}
 use Rattle.aes3_write.proofs.write_sixteen.Tie as tie
@@ -44,7 +45,7 @@ ranges c i =
     let start = c .before .before .before .before .before .before .before in
     sound-passes (start .args .samples .now) (start .args .side .now) (start .pre .2) .ranges i
 
-module _ (c : tie.After-word-at2 Inv-loop μ-loop) where
+module _ (c : tie.After-body-at2 Inv-loop μ-loop) where
   abbrev at : tie.At-loop Inv-loop μ-loop
   at = c .before .before .before
 
@@ -66,11 +67,9 @@ module _ (c : tie.After-word-at2 Inv-loop μ-loop) where
       let n : 16 - 2 * at .loop .f ≡ suc (suc (14 - 2 * at .loop .f)) = omega arith in
       flags-frame side index (14 - 2 * at .loop .f) (at .loop .left) (rw n at (at .loop .inv .2))
 
-  -- the word of sample i carries body i
-  carried : (i w f : ℕ) → i < 384 → w ≡ codeOf 24 (getD samples i (pos 0)) + f * 16777216 → f ≡ flags side i → bodyWith w ≡ getD (bodiesOf samples side) i 0
-  carried i w f h e g =
-      body-with side i samples w (ranges at i) (e ∙ ap (λ (b : ℕ). codeOf 24 (getD samples i (pos 0)) + b * 16777216) g)
-      ∙ sym (getD-bodies samples side i h)
+  -- what was made of sample i is body i
+  carried : (i b f : ℕ) → i < 384 → b ≡ bodyWith (codeOf 24 (getD samples i (pos 0))) f → f ≡ flags side i → b ≡ getD (bodiesOf samples side) i 0
+  carried i b f h e g = e ∙ body-with side i samples f (ranges at i) g ∙ sym (getD-bodies samples side i h)
 
 sixteen-requires : tie.Need-sixteen-requires Inv-loop μ-loop
 sixteen-requires c κs =
@@ -101,17 +100,17 @@ mul-i-2 c = omega arith
 add-i : tie.Need-add-i Inv-loop μ-loop
 add-i c = omega arith
 
-word-at-requires : tie.Need-word-at-requires Inv-loop μ-loop
-word-at-requires c κs =
+body-at-requires : tie.Need-body-at-requires Inv-loop μ-loop
+body-at-requires c κs =
     let at = c .before in
     let start = at .before .before .before .before .before .before .before in
     (start .pre .3, omega arith, ranges at (16 * start .args .j + 2 * at .loop .f), omega arith)
 
-add-word-at : tie.Need-add-word-at Inv-loop μ-loop
-add-word-at c = omega arith
+add-body-at : tie.Need-add-body-at Inv-loop μ-loop
+add-body-at c = omega arith
 
-word-at-requires-2 : tie.Need-word-at-requires-2 Inv-loop μ-loop
-word-at-requires-2 c κs =
+body-at-requires-2 : tie.Need-body-at-requires-2 Inv-loop μ-loop
+body-at-requires-2 c κs =
     let at = c .before .before in
     let start = at .before .before .before .before .before .before .before in
     (start .pre .3, omega arith, ranges at (16 * start .args .j + 2 * at .loop .f + 1), omega arith)
@@ -134,7 +133,10 @@ part-write-frame-end c = omega arith
 write-frame-requires : tie.Need-write-frame-requires Inv-loop μ-loop
 write-frame-requires c κs =
     let k = c .before in
-    (start k .pre .0, omega (arith, due-lt (index k), at k .loop .inv .3), start k .pre .6, k .before .word-at .ensures .1, k .word-at2 .ensures .1, search needs)
+    (start k .pre .0, omega (arith, due-lt (index k), at k .loop .inv .3), start k .pre .6, search needs)
+
+cast-m-2 : tie.Need-cast-m-2 Inv-loop μ-loop
+cast-m-2 c = omega arith
 
 add-f : tie.Need-add-f Inv-loop μ-loop
 add-f c = omega arith
@@ -158,21 +160,21 @@ loop-again c =
     let e : 16 * p .args .j + 2 * (loop .f + 1) ≡ i + 2 = omega arith in
     let q : 16 - 2 * (loop .f + 1) ≡ 14 - 2 * loop .f = omega arith in
     let s : (loop .f + 1) * 16 ≡ loop .f * 16 + 16 = omega arith in
-    let a = k .before .word-at in
-    let b = k .word-at2 in
-    let x : opened (loop .m) l (bodyWith (a .result)) ≡ subframe i l (bodyWith (a .result)) =
-    ap (λ (m : ℕ). opened m l (bodyWith (a .result))) (loop .inv .3) ∙ opened-due i l (bodyWith (a .result)) in
-    let y : opened 228 l (bodyWith (b .result)) ≡ subframe (suc i) l (bodyWith (b .result)) =
-    ap (λ (m : ℕ). opened m l (bodyWith (b .result))) (due-odd (suc i) (omega arith)) ∙ opened-due (suc i) l (bodyWith (b .result)) in (
+    let a = k .before .body-at in
+    let b = k .body-at2 in
+    let ea = carried k i (a .result) (loop .left % 8) (omega arith) (a .ensures) (two .0) in
+    let eb = carried k (i + 1) (b .result) (loop .left / 16 % 8) (omega arith) (b .ensures) (two .1) in
+    let x : opened (loop .m) l (a .result) ≡ subframe i l (a .result) =
+    ap (λ (m : ℕ). opened m l (a .result)) (loop .inv .3) ∙ opened-due i l (a .result) in
+    let y : opened 0b11100100 l (b .result) ≡ subframe (suc i) l (b .result) =
+    ap (λ (m : ℕ). opened m l (b .result)) (due-odd (suc i) (omega arith)) ∙ opened-due (suc i) l (b .result) in (
       omega arith,
       same-len-mid {X = ℕ} (loop .f * 16) (loop .f * 16 + 16 - loop .f * 16) (loop .part) o (wrote .kept .1 .1 .1 .1 .1 .0) ∙ loop .inv .1,
       rw (e, q) (two .2),
       rw e (due-even (i + 2) (omega arith) (omega arith)),
       rw (e, s)
-          (frame-turn bodies o i (bodyWith (a .result)) (bodyWith (b .result)) l h
-          (carried k i (a .result) (loop .left % 8) (omega arith) (a .ensures .0) (two .0))
-          (carried k (i + 1) (b .result) (loop .left / 16 % 8) (omega arith) (b .ensures .0) (two .1))
-          (proper-with (a .result) (a .ensures .1)) (proper-with (b .result) (b .ensures .1))
+          (frame-turn bodies o i (a .result) (b .result) l h ea eb
+          (subst Proper (sym ea) (proper (samples k) (side k) i)) (subst Proper (sym eb) (proper (samples k) (side k) (i + 1)))
           (wrote .ensures ∙ ap₂ (λ (r t : Row). octets 8 r ++ octets 8 t) x y)
           (loop .part) _ _ (loop .f * 16) (omega arith) (loop .inv .4)),
     )
@@ -202,15 +204,16 @@ write-sixteen-spec =
     mul-i
     mul-i-2
     add-i
-    word-at-requires
-    add-word-at
-    word-at-requires-2
+    body-at-requires
+    add-body-at
+    body-at-requires-2
     mul-s
     add-e
     sub-write-frame
     part-write-frame-start
     part-write-frame-end
     write-frame-requires
+    cast-m-2
     add-f
     loop-less
     loop-again

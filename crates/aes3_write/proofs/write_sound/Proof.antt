@@ -1,6 +1,6 @@
 -- `aes3_write::write_sound` meets its contract: the tables are as they should be. Assumes nothing.
 use borrow.Author.Needs.{needs}
-use Rattle.aes3_write.proofs.EightTable.{eights, eights-right}
+use Rattle.aes3_write.proofs.EightTable.{table-right}
 use Rattle.aes3_write.proofs.Flags.{spreads, spreads-right}
 use Rattle.aes3_write.proofs.write_sound.Statement.{statement}
 use Rattle.aes3_write.proofs.write_sound.Tie as tie
@@ -12,10 +12,10 @@ slice-aggregate-write-line-2 : tie.Need-slice-aggregate-write-line-2
 slice-aggregate-write-line-2 c = search needs
 
 write-line-requires : tie.Need-write-line-requires
-unfolding eights spreads
+unfolding spreads
 write-line-requires c κs =
     let start = c .before .before .before .before .before in
-    (eights-right, spreads-right, start .pre .0, start .pre .1, start .pre .2, start .pre .3, start .pre .4)
+    (table-right, spreads-right, start .pre .0, start .pre .1, start .pre .2, start .pre .3, start .pre .4)
 
 same-length : tie.Need-same-length
 same-length c = search needs

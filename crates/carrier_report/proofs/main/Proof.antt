@@ -5,17 +5,17 @@ use Prim.Native.Nat.{ℕ, _-_, _≤_}
 use native.Mathlib.Omega.{arith}
 use lib.ListN.{length, drop, length-append}
 use lib.Seq.{length-take-le, length-front}
-use Rattle.report_text.specs.Text.{heading}
-use Rattle.report_head.specs.Head.{toRead}
-use Rattle.report_text.proofs.Lengths.{starts, heading-size}
+use Rattle.report.specs.Text.{heading}
+use Rattle.records.specs.Head.{bodySize}
+use Rattle.report.proofs.Lengths.{starts, heading-size}
 use Rattle.report.proofs.Written.{step-starts, step-size}
-use Rattle.report_head.proofs.HeadLaws.{read-fits}
+use Rattle.records.proofs.HeadLaws.{read-fits}
 use Rattle.report.proofs.Whole.{step-counts}
 use borrow.Author.Needs.{needs}
 use Rattle.carrier_report.proofs.main.Statement.{statement}
 use Rattle.carrier_report.proofs.main.Tie as tie
 
-fits : (head : List ℕ) {size : ℕ} → size ≡ toRead head → size ≤ 8192
+fits : (head : List ℕ) {size : ℕ} → size ≡ bodySize head → size ≤ 8192
 fits head e = omega (arith, e, read-fits head)
 
 longer : (a b : List ℕ) {n : ℕ} → n ≤ length a → n ≤ length (a ++ b)
@@ -57,17 +57,17 @@ read-requires c κs = search needs
 array-share-prefix-head : tie.Need-array-share-prefix-head Inv-loop μ-loop
 array-share-prefix-head c = search needs
 
-slice-aggregate-to-read : tie.Need-slice-aggregate-to-read Inv-loop μ-loop
-slice-aggregate-to-read c = search needs
+slice-aggregate-body-size : tie.Need-slice-aggregate-body-size Inv-loop μ-loop
+slice-aggregate-body-size c = search needs
 
-to-read-requires : tie.Need-to-read-requires Inv-loop μ-loop
-to-read-requires c κs = search needs
+body-size-requires : tie.Need-body-size-requires Inv-loop μ-loop
+body-size-requires c κs = search needs
 
 array-borrow-prefix-body : tie.Need-array-borrow-prefix-body Inv-loop μ-loop
-array-borrow-prefix-body c = omega (arith, fits _ (c .to-read .ensures))
+array-borrow-prefix-body c = omega (arith, fits _ (c .body-size .ensures))
 
 slice-aggregate-read-2 : tie.Need-slice-aggregate-read-2 Inv-loop μ-loop
-slice-aggregate-read-2 c = sym (length-take-le _ _ (omega (arith, fits _ (c .before .to-read .ensures))))
+slice-aggregate-read-2 c = sym (length-take-le _ _ (omega (arith, fits _ (c .before .body-size .ensures))))
 
 read-requires-2 : tie.Need-read-requires-2 Inv-loop μ-loop
 read-requires-2 c κs = search needs
@@ -75,34 +75,34 @@ read-requires-2 c κs = search needs
 array-share-prefix-head-2 : tie.Need-array-share-prefix-head-2 Inv-loop μ-loop
 array-share-prefix-head-2 c = search needs
 
-slice-aggregate-tell : tie.Need-slice-aggregate-tell Inv-loop μ-loop
-slice-aggregate-tell c = search needs
+slice-aggregate-print : tie.Need-slice-aggregate-print Inv-loop μ-loop
+slice-aggregate-print c = search needs
 
 array-share-prefix-body : tie.Need-array-share-prefix-body Inv-loop μ-loop
 array-share-prefix-body c =
     let r = c .before .before in
-    longer (r .read2 .last .0) (drop (r .before .before .to-read .result) (r .before .before .before .before .before .before .before .loop .body)) (r .read2 .ensures .0)
+    longer (r .read2 .last .0) (drop (r .before .before .body-size .result) (r .before .before .before .before .before .before .before .loop .body)) (r .read2 .ensures .0)
 
-slice-aggregate-tell-2 : tie.Need-slice-aggregate-tell-2 Inv-loop μ-loop
-slice-aggregate-tell-2 c =
+slice-aggregate-print-2 : tie.Need-slice-aggregate-print-2 Inv-loop μ-loop
+slice-aggregate-print-2 c =
     let r = c .before .before .before in
     sym (length-take-le _ _
-    (longer (r .read2 .last .0) (drop (r .before .before .to-read .result) (r .before .before .before .before .before .before .before .loop .body)) (r .read2 .ensures .0)))
+    (longer (r .read2 .last .0) (drop (r .before .before .body-size .result) (r .before .before .before .before .before .before .before .loop .body)) (r .read2 .ensures .0)))
 
-tell-requires : tie.Need-tell-requires Inv-loop μ-loop
-tell-requires c κs = search needs
+print-requires : tie.Need-print-requires Inv-loop μ-loop
+print-requires c κs = search needs
 
 sub-write-all-2 : tie.Need-sub-write-all-2 Inv-loop μ-loop
-sub-write-all-2 c = step-starts _ (c .tell .ensures .0)
+sub-write-all-2 c = step-starts _ (c .print .ensures .0)
 
 part-write-all-start-2 : tie.Need-part-write-all-start-2 Inv-loop μ-loop
-part-write-all-start-2 c = step-starts _ (c .before .tell .ensures .0)
+part-write-all-start-2 c = step-starts _ (c .before .print .ensures .0)
 
 part-write-all-end-2 : tie.Need-part-write-all-end-2 Inv-loop μ-loop
 part-write-all-end-2 c =
     let t = c .before in
     let l = t .before .before .before .before .before .before .before .before .before .before .before .before .loop in
-    omega (arith, step-size (l .out) (l .inv .2) _ _ _ (t .tell .ensures .1))
+    omega (arith, step-size (l .out) (l .inv .2) _ _ _ (t .print .ensures .1))
 
 write-all-requires-2 : tie.Need-write-all-requires-2 Inv-loop μ-loop
 write-all-requires-2 c κs = search needs
@@ -113,7 +113,7 @@ returns c = search needs
 loop-less : tie.Need-loop-less Inv-loop μ-loop
 loop-less c =
     let t = c .before .before .before .before in
-    omega (arith, step-counts _ _ _ (t .tell .ensures .0) (c .if1 .left))
+    omega (arith, step-counts _ _ _ (t .print .ensures .0) (c .if1 .left))
 
 loop-again : tie.Need-loop-again Inv-loop μ-loop
 loop-again c =
@@ -121,10 +121,10 @@ loop-again c =
     let r = t .before .before .before .before .before in
     let z = r .before .before in
     let l = z .before .before .before .before .before .loop in
-    let m : z .to-read .result ≤ length (l .body) = omega (arith, fits _ (z .to-read .ensures)) in (
+    let m : z .body-size .result ≤ length (l .body) = omega (arith, fits _ (z .body-size .ensures)) in (
       search needs,
-      length-front (l .body) (r .read2 .last .0) (z .to-read .result) (search needs) ∙ l .inv .1,
-      step-size (l .out) (l .inv .2) _ _ _ (t .tell .ensures .1),
+      length-front (l .body) (r .read2 .last .0) (z .body-size .result) (search needs) ∙ l .inv .1,
+      step-size (l .out) (l .inv .2) _ _ _ (t .print .ensures .1),
       search needs,
     )
 
@@ -144,16 +144,16 @@ main-spec =
     slice-aggregate-read
     read-requires
     array-share-prefix-head
-    slice-aggregate-to-read
-    to-read-requires
+    slice-aggregate-body-size
+    body-size-requires
     array-borrow-prefix-body
     slice-aggregate-read-2
     read-requires-2
     array-share-prefix-head-2
-    slice-aggregate-tell
+    slice-aggregate-print
     array-share-prefix-body
-    slice-aggregate-tell-2
-    tell-requires
+    slice-aggregate-print-2
+    print-requires
     sub-write-all-2
     part-write-all-start-2
     part-write-all-end-2

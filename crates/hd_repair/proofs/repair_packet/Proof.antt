@@ -1,23 +1,31 @@
 -- `hd_repair::repair_packet` meets its contract, refusal by refusal. Assumes nothing.
-use mathlib.Core.Path.{_≡_, sym, ap, _∙_}
-use mathlib.Core.List.{List}
+use mathlib.Core.Path.{_≡_, refl, sym, ap, _∙_}
+use mathlib.Core.List.{List, _∷_}
 use Prim.Native.Nat.{ℕ}
+use native.Mathlib.Omega.{arith}
 use borrow.Author.Needs.{needs}
-use lib.ListN.{length}
-use Rattle.hd_lanes.specs.Lanes.{mendAnswer, octetsAfter}
+use borrow.Author.Tests.{eq-eqb, ne-eqb}
+use lib.Dec.{eqb}
+use lib.ListN.{length, getD}
+use Rattle.answer.specs.Answer.{Answer.accepted}
+use Rattle.answer.specs.Demand.{Demand, Demand.asks, Demand.findsNone, Met, _&_, Stops}
+use Rattle.answer.specs.Demand.Stops.{fails, later}
+use Rattle.answer.proofs.Residues.{shows-refusal, shows-acceptance}
+use Rattle.answer.specs.Said.{numberSaid}
+use Rattle.anc.specs.Word.{wideAt}
+use Rattle.anc.specs.Head.{headDemands}
+use Rattle.anc.proofs.Searched.{wide-found}
+use Rattle.anc.proofs.Searched.{none-wide as no-wide}
+use Rattle.codes.specs.Lanes.{hopelessAt, mendedOctets, lanesApart}
+use Rattle.codes.specs.Inner.{mendAnswer, octetsAfter}
+use Rattle.codes.proofs.RepairedLanes.{mending-stops, mending-met}
 use Rattle.hd_packet.specs.Packet.{octetsOf}
 use Rattle.hd_packet.specs.Inner.{packetLaid}
-use Rattle.hd_repair.specs.Repair.{repairedOctets, adfAnswer, packetRepaired, ifRepaired, wordsRepaired}
-use Rattle.hd_repair.specs.declared.RepairAnswer.{RepairAnswer}
-use Rattle.hd_repair.specs.declared.RepairAnswer.the-variants.{Repaired, Refused}
-use Rattle.hd_repair.proofs.RepairLaws.{byLanes, answer, words-after, few-words, no-room, taken, right, wide-word, none-wide, refused-lane, accepted, adf-first, adf-second, adf-third, all-right, laid}
+use Rattle.hd_packet.proofs.PacketLaws.{taken, laid}
+use Rattle.hd_repair.specs.Repair.{repairedOctets, packetRepaired, repairDemands, repairAnswer, lanesChanged, packetOut}
+use Rattle.hd_repair.proofs.RepairLaws.{long, below, mended-octets, repaired-30, packet-of-octets, packet-size}
 use Rattle.hd_repair.proofs.repair_packet.Statement.{statement}
 use Rattle.hd_repair.proofs.repair_packet.Tie as tie
-
--- the answer a, with the words that it leaves
-both : (words old : List ℕ) (a : RepairAnswer) → a ≡ answer words old
-    → (a ≡ answer words old) × (ifRepaired a (packetRepaired words) old ≡ wordsRepaired words old)
-both words old a e = (e, words-after words old a e)
 
 -- the lanes have answered
 module _ (m : tie.After-mend) where
@@ -39,51 +47,68 @@ module _ (m : tie.After-mend) where
   room : length old ≡ 31
   room = searched .before .if2 .left
 
-  left : answer ws old ≡ byLanes (right ws old h) (mendAnswer (octetsOf ws))
-  left = none-wide ws old h room (searched .first-wide .result) (searched .first-wide .ensures) (took .before .before .if3 .left)
+  none-wide : Met (findsNone 14 (wideAt ws) 0 (length ws))
+  none-wide = no-wide ws (searched .first-wide .result) (searched .first-wide .ensures) (omega (arith, h, took .before .before .if3 .left))
 
   got : took .take-octets .last .1 .0 ≡ octetsOf ws
-  got = took .take-octets .ensures ∙ taken ws old h
+  got = took .take-octets .ensures ∙ taken ws _ (omega (arith, h)) refl
 
 -- and all of them are mended
 module _ (c : tie.After-known-told2) where
-  abbrev met : tie.After-mend
-  met = c .before .before .before .before
+  abbrev after-mend : tie.After-mend
+  after-mend = c .before .before .before .before
 
   abbrev n : ℕ
   n = c .before .lanes .given .0 .0
 
   abbrev xs : List ℕ
-  xs = met .mend .last .0
+  xs = after-mend .mend .last .0
 
-  sound : (answer (ws met) (old met) ≡ adfAnswer xs (Repaired n)) × (xs ≡ repairedOctets (ws met))
-  sound =
-      accepted (ws met) (old met) (h met) (left met) n (sym (c .before .lanes .given .1) ∙ met .mend .ensures .0 ∙ ap mendAnswer (got met)) xs
-      (met .mend .ensures .1 ∙ ap octetsAfter (got met))
+  answered : accepted n ≡ mendAnswer (octetsOf (ws after-mend))
+  answered = ap numberSaid (sym (c .before .lanes .given .1)) ∙ after-mend .mend .ensures .0 ∙ ap mendAnswer (got after-mend)
+
+  lanes : Met (findsNone 15 (hopelessAt (octetsOf (ws after-mend))) 0 8)
+      × (n ≡ lanesApart 8 (mendedOctets (octetsOf (ws after-mend))) (octetsOf (ws after-mend)))
+      × (octetsAfter (octetsOf (ws after-mend)) ≡ mendedOctets (octetsOf (ws after-mend)))
+  lanes = mending-met (octetsOf (ws after-mend)) (long (ws after-mend) (h after-mend)) (below (ws after-mend) (h after-mend)) answered
+
+  octets : xs ≡ repairedOctets (ws after-mend)
+  octets =
+      after-mend .mend .ensures .1 ∙ ap octetsAfter (got after-mend) ∙ lanes .2 ∙ sym (mended-octets (ws after-mend) (h after-mend))
+
+  count : n ≡ lanesApart 8 (repairedOctets (ws after-mend)) (octetsOf (ws after-mend))
+  count = lanes .1 ∙ ap (λ (os : List ℕ). lanesApart 8 os (octetsOf (ws after-mend))) (sym (mended-octets (ws after-mend) (h after-mend)))
+
+  -- what the ADF's demands say
+  then-adf : {ds : List Demand} {number place : ℕ} → Stops ds number place
+      → Stops (asks 1 0 (eqb (length (ws after-mend)) 31) ∷ asks 1 0 (eqb (length (old after-mend)) 31)
+      ∷ findsNone 14 (wideAt (ws after-mend)) 0 (length (ws after-mend))
+      ∷ findsNone 15 (hopelessAt (octetsOf (ws after-mend))) 0 8 ∷ ds) number place
+  then-adf s =
+      later (eq-eqb _ 31 (h after-mend)) (later (eq-eqb _ 31 (room after-mend)) (later (none-wide after-mend) (later (lanes .0) s)))
 
 returns : tie.Need-returns
-returns c =
-    let a = c .before .before .before .args in
-    both (a .words .now) (a .repaired .now) (Refused 1 0) (few-words (a .words .now) (a .repaired .now) (c .if1 .taken))
+unfolding repairAnswer
+returns c = shows-refusal _ _ _ _ (fails (ne-eqb _ 31 (c .if1 .taken)))
 
 returns-2 : tie.Need-returns-2
-returns-2 c =
-    let a = c .before .before .before .before .args in
-    both (a .words .now) (a .repaired .now) (Refused 1 0) (no-room (a .words .now) (a .repaired .now) (c .before .if1 .left) (c .if2 .taken))
+unfolding repairAnswer
+returns-2 c = shows-refusal _ _ _ _ (later (eq-eqb _ 31 (c .before .if1 .left)) (fails (ne-eqb _ 31 (c .if2 .taken))))
 
 first-wide-requires : tie.Need-first-wide-requires
 first-wide-requires c κs = search needs
 
-cast-t9 : tie.Need-cast-t9
-cast-t9 c = search needs
+cast-t10 : tie.Need-cast-t10
+cast-t10 c = search needs
 
 returns-3 : tie.Need-returns-3
+unfolding repairAnswer
 returns-3 c =
     let k = c .before in
-    let a = k .before .before .before .before .before .args in
-    both (a .words .now) (a .repaired .now) (Refused 14 (k .first-wide .result))
-    (wide-word (a .words .now) (a .repaired .now) (k .before .before .if1 .left) (k .before .if2 .left) (k .first-wide .result)
-    (k .first-wide .ensures) (c .if3 .taken))
+    let w = k .before .before .before .before .before .args .words .now in
+    shows-refusal _ _ _ _
+    (later (eq-eqb _ 31 (k .before .before .if1 .left)) (later (eq-eqb _ 31 (k .before .if2 .left))
+    (wide-found w (k .first-wide .result) (k .first-wide .ensures) (omega (arith, k .before .before .if1 .left, c .if3 .taken)))))
 
 slice-aggregate-take-octets : tie.Need-slice-aggregate-take-octets
 slice-aggregate-take-octets c = search needs
@@ -97,8 +122,8 @@ slice-aggregate-mend c = search needs
 mend-requires : tie.Need-mend-requires
 mend-requires c κs = search needs
 
-enum-known-lane : tie.Need-enum-known-lane
-enum-known-lane c = search needs
+enum-known-number : tie.Need-enum-known-number
+enum-known-number c = search needs
 
 enum-known-lanes : tie.Need-enum-known-lanes
 enum-known-lanes c = search needs
@@ -107,29 +132,31 @@ array-read-if4 : tie.Need-array-read-if4
 array-read-if4 c = search needs
 
 returns-4 : tie.Need-returns-4
-returns-4 c =
-    let v = c .before in
-    let m = met v in
-    both (ws m) (old m) (Refused 13 0) (adf-first (ws m) (old m) (h m) (n v) (xs v) (sound v .0) (c .if4 .taken))
+unfolding repairAnswer
+returns-4 c = shows-refusal _ _ _ _ (then-adf (c .before) (fails (ne-eqb _ 0 (rw (octets (c .before)) at (c .if4 .taken)))))
 
 array-read-if5 : tie.Need-array-read-if5
 array-read-if5 c = search needs
 
 returns-5 : tie.Need-returns-5
+unfolding repairAnswer
 returns-5 c =
     let v = c .before .before in
-    let m = met v in
-    both (ws m) (old m) (Refused 13 1) (adf-second (ws m) (old m) (h m) (n v) (xs v) (sound v .0) (c .before .if4 .left) (c .if5 .taken))
+    let x = octets v in
+    shows-refusal _ _ _ _
+    (then-adf v (later (eq-eqb _ 0 (rw x at (c .before .if4 .left))) (fails (ne-eqb _ 255 (rw x at (c .if5 .taken))))))
 
 array-read-if6 : tie.Need-array-read-if6
 array-read-if6 c = search needs
 
 returns-6 : tie.Need-returns-6
+unfolding repairAnswer
 returns-6 c =
     let v = c .before .before .before in
-    let m = met v in
-    both (ws m) (old m) (Refused 13 2)
-    (adf-third (ws m) (old m) (h m) (n v) (xs v) (sound v .0) (c .before .before .if4 .left) (c .before .if5 .left) (c .if6 .taken))
+    let x = octets v in
+    shows-refusal _ _ _ _
+    (then-adf v (later (eq-eqb _ 0 (rw x at (c .before .before .if4 .left))) (later (eq-eqb _ 255 (rw x at (c .before .if5 .left)))
+    (fails (ne-eqb _ 255 (rw x at (c .if6 .taken)))))))
 
 slice-aggregate-lay-packet : tie.Need-slice-aggregate-lay-packet
 slice-aggregate-lay-packet c = search needs
@@ -138,27 +165,34 @@ lay-packet-requires : tie.Need-lay-packet-requires
 lay-packet-requires c κs = search needs
 
 returns-7 : tie.Need-returns-7
+unfolding repairAnswer
 returns-7 c =
     let m = c .before .before .before .before in
-    both (ws m) (old m) (Refused 15 (c .before .lane .given .0 .0))
-    (refused-lane (ws m) (old m) (h m) (left m) (c .before .lane .given .0 .0)
-    (sym (c .before .lane .given .1) ∙ m .mend .ensures .0 ∙ ap mendAnswer (got m)))
+    shows-refusal _ _ _ _
+    (later (eq-eqb _ 31 (h m)) (later (eq-eqb _ 31 (room m)) (later (none-wide m)
+    (mending-stops (octetsOf (ws m)) (long (ws m) (h m)) (below (ws m) (h m))
+    (ap numberSaid (sym (c .before .number .given .1)) ∙ m .mend .ensures .0 ∙ ap mendAnswer (got m))))))
 
 same-length : tie.Need-same-length
 same-length c = search needs
 
 returns-8 : tie.Need-returns-8
+unfolding repairAnswer
 returns-8 c =
     let l = c .before .before in
     let d = l .before .before .before in
     let v = d .before .before .before in
-    let m = met v in
-    let e =
-    all-right (ws m) (old m) (h m) (n v) (xs v) (sound v .0) (d .before .before .if4 .left) (d .before .if5 .left) (d .if6 .left) in (
-      e,
-      l .lay-packet .ensures ∙ ap (λ (x : List ℕ). packetLaid x (old m)) (sound v .1) ∙ laid (ws m) (old m) (h m) (room m)
-          ∙ words-after (ws m) (old m) (Repaired (n v)) e,
-    )
+    let m = after-mend v in
+    let x = octets v in
+    let shown =
+    shows-acceptance lanesChanged packetOut (lanesApart 8 (repairedOctets (ws m)) (octetsOf (ws m)), packetRepaired (ws m)) (old m)
+    (repairDemands (ws m) (length (old m)))
+    (eq-eqb _ 31 (h m) & eq-eqb _ 31 (room m) & none-wide m & lanes v .0 & eq-eqb _ 0 (rw x at (d .before .before .if4 .left))
+    & eq-eqb _ 255 (rw x at (d .before .if5 .left)) & eq-eqb _ 255 (rw x at (d .if6 .left)) & tt)
+    (packet-size (ws m) (h m) ∙ sym (room m))
+    (l .lay-packet .ensures ∙ ap (λ (o : List ℕ). packetLaid o (old m)) x
+    ∙ laid (repairedOctets (ws m)) (old m) (repaired-30 (ws m) (h m)) (room m) ∙ sym (packet-of-octets (ws m) (h m))) in
+    (ap accepted (count v) ∙ shown .0, shown .1)
 
 pub repair-packet-spec : {M : Type 1} → statement M
 repair-packet-spec =
@@ -167,13 +201,13 @@ repair-packet-spec =
     returns
     returns-2
     first-wide-requires
-    cast-t9
+    cast-t10
     returns-3
     slice-aggregate-take-octets
     take-octets-requires
     slice-aggregate-mend
     mend-requires
-    enum-known-lane
+    enum-known-number
     enum-known-lanes
     array-read-if4
     returns-4

@@ -1,64 +1,97 @@
 -- `hd_write::write_packet` meets its contract, refusal by refusal. Assumes nothing.
-use mathlib.Core.Path.{sym, ap, _∙_}
+use mathlib.Core.Path.{_≡_, refl, sym, ap, _∙_}
+use mathlib.Core.Bool.{true}
 use mathlib.Core.List.{List, _++_}
-use Prim.Native.Nat.{ℕ}
+use Prim.Native.Nat.{ℕ, _≤_}
+use native.Mathlib.Omega.{arith}
 use borrow.Author.Needs.{needs}
-use lib.ListN.{replicate}
-use Rattle.hd_lanes.specs.Lanes.{withChecks}
+use borrow.Author.Tests.{eq-eqb, ne-eqb}
+use lib.ListN.{length, replicate}
+use Rattle.answer.specs.Demand.{Demand.findsNone, Met, _&_}
+use Rattle.answer.specs.Demand.Stops.{fails, later}
+use Rattle.answer.proofs.Chains.{place-found, none-found}
+use Rattle.answer.proofs.Residues.{shows-refusal, shows-acceptance}
+use Rattle.codes.specs.Inner.{withChecks}
+use Rattle.codes.proofs.RepairedLanes.{checked}
+use Rattle.hd_packet.specs.Packet.{dataOctets, oddBody}
 use Rattle.hd_packet.specs.Inner.{packetLaid}
-use Rattle.write_answer.specs.declared.WriteAnswer.the-variants.{Written, Refused}
-use Rattle.hd_write.proofs.WriteLaws.{ranges, words-after, few-bodies, few-words, out-of-range, odd-body, low-body, all-right, four-bodies, checked, laid}
+use Rattle.hd_packet.proofs.Laid.{length-data, data-of-four}
+use Rattle.hd_packet.proofs.PacketLaws.{laid}
+use Rattle.hd_write.specs.Write.{inRanges, lowBody, writeAnswer}
+use Rattle.hd_write.specs.Inner.{firstOdd, firstLow}
+use Rattle.hd_write.proofs.WriteLaws.{ranges, writtenOctets, length-written, packet-of-octets, packet-size}
 use Rattle.hd_write.proofs.write_packet.Statement.{statement}
 use Rattle.hd_write.proofs.write_packet.Tie as tie
 
+module _ (s : tie.Start) where
+  abbrev bodies : List ℕ
+  bodies = s .args .bodies .now
+
+  abbrev old : List ℕ
+  old = s .args .words .now
+
 returns : tie.Need-returns
-returns c =
-    let a = c .before .before .before .args in
-    let e = few-bodies (a .group) (a .dbn) (a .phase) (a .ck12) (a .z1) (a .z2) (a .bodies .now) (a .words .now) (c .if1 .taken) in
-    (e, words-after (a .group) (a .dbn) (a .phase) (a .ck12) (a .z1) (a .z2) (a .bodies .now) (a .words .now) (Refused 1 0) e)
+unfolding writeAnswer
+returns c = shows-refusal _ _ _ _ (fails (ne-eqb _ 4 (c .if1 .taken)))
 
 returns-2 : tie.Need-returns-2
-returns-2 c =
-    let a = c .before .before .before .before .args in
-    let e = few-words (a .group) (a .dbn) (a .phase) (a .ck12) (a .z1) (a .z2) (a .bodies .now) (a .words .now) (c .before .if1 .left) (c .if2 .taken) in
-    (e, words-after (a .group) (a .dbn) (a .phase) (a .ck12) (a .z1) (a .z2) (a .bodies .now) (a .words .now) (Refused 1 0) e)
+unfolding writeAnswer
+returns-2 c = shows-refusal _ _ _ _ (later (eq-eqb _ 4 (c .before .if1 .left)) (fails (ne-eqb _ 31 (c .if2 .taken))))
 
 in-ranges-requires : tie.Need-in-ranges-requires
 in-ranges-requires c κs = search needs
 
+-- after the lengths and the ranges: the searches
+module _ (t : tie.Then3) where
+  abbrev start : tie.Start
+  start = t .before .before .before .before .before .before
+
+  four : length (bodies start) ≡ 4
+  four = t .before .before .before .if1 .left
+
+  room : length (old start) ≡ 31
+  room = t .before .before .if2 .left
+
+  in-range : inRanges (start .args .f) ≡ true
+  in-range = sym (t .before .in-ranges .ensures) ∙ t .if3 .taken
+
+  none-odd : (o : ℕ) → o ≡ firstOdd (bodies start) → 4 ≤ o → Met (findsNone 9 (oddBody (bodies start)) 0 (length (bodies start)))
+  unfolding firstOdd
+  none-odd o e h = none-found (oddBody (bodies start)) (length (bodies start)) o e (omega (arith, four))
+
 first-odd-requires : tie.Need-first-odd-requires
 first-odd-requires c κs = search needs
 
-cast-t16 : tie.Need-cast-t16
-cast-t16 c = search needs
+cast-t11 : tie.Need-cast-t11
+cast-t11 c = search needs
 
 returns-3 : tie.Need-returns-3
+unfolding writeAnswer firstOdd
 returns-3 c =
     let o = c .before in
-    let k = o .before .before in
-    let a = k .before .before .before .before .before .args in
-    let e =
-    odd-body (a .group) (a .dbn) (a .phase) (a .ck12) (a .z1) (a .z2) (a .bodies .now) (a .words .now) (k .before .before .if1 .left) (k .before .if2 .left)
-    (sym (k .in-ranges .ensures) ∙ o .before .if3 .taken) (o .first-odd .result) (o .first-odd .ensures) (c .if4 .taken) in
-    (e, words-after (a .group) (a .dbn) (a .phase) (a .ck12) (a .z1) (a .z2) (a .bodies .now) (a .words .now) (Refused 9 (o .first-odd .result)) e)
+    let t = o .before in
+    let bs = bodies (start t) in
+    shows-refusal _ _ _ _
+    (later (eq-eqb _ 4 (four t)) (later (eq-eqb _ 31 (room t)) (later (in-range t)
+    (place-found (oddBody bs) (length bs) (o .first-odd .result) (o .first-odd .ensures) (omega (arith, four t))))))
 
 first-low-requires : tie.Need-first-low-requires
 first-low-requires c κs = search needs
 
-cast-t17 : tie.Need-cast-t17
-cast-t17 c = search needs
+cast-t12 : tie.Need-cast-t12
+cast-t12 c = search needs
 
 returns-4 : tie.Need-returns-4
+unfolding writeAnswer firstLow
 returns-4 c =
     let l = c .before in
     let o = l .before .before in
-    let k = o .before .before in
-    let a = k .before .before .before .before .before .args in
-    let e =
-    low-body (a .group) (a .dbn) (a .phase) (a .ck12) (a .z1) (a .z2) (a .bodies .now) (a .words .now) (k .before .before .if1 .left) (k .before .if2 .left)
-    (sym (k .in-ranges .ensures) ∙ o .before .if3 .taken) (o .first-odd .result) (o .first-odd .ensures) (l .before .if4 .left)
-    (l .first-low .result) (l .first-low .ensures) (c .if5 .taken) in
-    (e, words-after (a .group) (a .dbn) (a .phase) (a .ck12) (a .z1) (a .z2) (a .bodies .now) (a .words .now) (Refused 12 (l .first-low .result)) e)
+    let t = o .before in
+    let bs = bodies (start t) in
+    shows-refusal _ _ _ _
+    (later (eq-eqb _ 4 (four t)) (later (eq-eqb _ 31 (room t)) (later (in-range t)
+    (later (none-odd t (o .first-odd .result) (o .first-odd .ensures) (l .before .if4 .left))
+    (place-found (lowBody bs) (length bs) (l .first-low .result) (l .first-low .ensures) (omega (arith, four t)))))))
 
 shared-slice-read-lay-data : tie.Need-shared-slice-read-lay-data
 shared-slice-read-lay-data c = search needs
@@ -74,9 +107,8 @@ shared-slice-read-lay-data-4 c = search needs
 
 lay-data-requires : tie.Need-lay-data-requires
 lay-data-requires c κs =
-    let k = c .before .before .before .before .before .before .before .before .before in
-    let a = k .before .before .before .before .before .args in
-    ranges (a .group) (a .dbn) (a .phase) (a .ck12) (a .z1) (a .z2) (sym (k .in-ranges .ensures) ∙ c .before .before .before .before .before .before .before .before .if3 .taken)
+    let t = c .before .before .before .before .before .before .before .before in
+    ranges (start t .args .f) (in-range t)
 
 slice-aggregate-fill-checks : tie.Need-slice-aggregate-fill-checks
 slice-aggregate-fill-checks c = search needs
@@ -94,34 +126,36 @@ same-length : tie.Need-same-length
 same-length c = search needs
 
 returns-5 : tie.Need-returns-5
+unfolding writeAnswer firstLow
 returns-5 c =
-    let l = c .before .before .before .before .before .before .before .before .before .before .before .before .before .before in
+    let e = c .before .before .before .before .before .before .before .before .before .before .before .before .before in
+    let l = e .before in
     let o = l .before .before in
-    let k = o .before .before in
-    let a = k .before .before .before .before .before .args in
-    let e =
-    all-right (a .group) (a .dbn) (a .phase) (a .ck12) (a .z1) (a .z2) (a .bodies .now) (a .words .now) (k .before .before .if1 .left) (k .before .if2 .left)
-    (sym (k .in-ranges .ensures) ∙ o .before .if3 .taken) (o .first-odd .result) (o .first-odd .ensures) (l .before .if4 .left)
-    (l .first-low .result) (l .first-low .ensures) (c .before .before .before .before .before .before .before .before .before .before .before .before .before .if5 .left) in
-    let t = c .before .before in
-    let f = t .before .before .before .before in
-    let d = f .before .before in (
-      e,
-      t .lay-packet .ensures
-          ∙ ap (λ (os : List ℕ). packetLaid os (a .words .now))
-          (f .fill-checks .ensures ∙ ap withChecks (d .lay-data .ensures ∙ ap (λ (os : List ℕ). os ++ replicate 6 0) (four-bodies (a .group) (a .dbn) (a .phase) (a .ck12) (a .z1) (a .z2) (a .bodies .now) (a .words .now)))
-          ∙ checked (a .group) (a .dbn) (a .phase) (a .ck12) (a .z1) (a .z2) (a .bodies .now) (a .words .now)) ∙ laid (a .group) (a .dbn) (a .phase) (a .ck12) (a .z1) (a .z2) (a .bodies .now) (a .words .now) (k .before .if2 .left)
-          ∙ words-after (a .group) (a .dbn) (a .phase) (a .ck12) (a .z1) (a .z2) (a .bodies .now) (a .words .now) Written e,
-    )
+    let t = o .before in
+    let a = start t .args in
+    let bs = bodies (start t) in
+    let p = c .before .before in
+    let f = p .before .before .before .before in
+    let d = f .before .before in
+    shows-acceptance _ _ _ _ _
+    (eq-eqb _ 4 (four t) & eq-eqb _ 31 (room t) & in-range t
+    & none-odd t (o .first-odd .result) (o .first-odd .ensures) (l .before .if4 .left)
+    & none-found (lowBody bs) (length bs) (l .first-low .result) (l .first-low .ensures) (omega (arith, four t, e .if5 .left)) & tt)
+    (packet-size (a .f) bs ∙ sym (room t))
+    (p .lay-packet .ensures
+    ∙ ap (λ (os : List ℕ). packetLaid os (a .words .now))
+    (f .fill-checks .ensures
+    ∙ ap withChecks (d .lay-data .ensures ∙ ap (λ (os : List ℕ). os ++ replicate 6 0) (data-of-four (a .f) bs))
+    ∙ checked (dataOctets (a .f) bs) (replicate 6 0) (length-data (a .f) bs) refl)
+    ∙ laid (writtenOctets (a .f) bs) (a .words .now) (length-written (a .f) bs) (room t) ∙ sym (packet-of-octets (a .f) bs))
 
 returns-6 : tie.Need-returns-6
+unfolding writeAnswer
 returns-6 c =
     let k = c .before in
-    let a = k .before .before .before .before .before .args in
-    let e =
-    out-of-range (a .group) (a .dbn) (a .phase) (a .ck12) (a .z1) (a .z2) (a .bodies .now) (a .words .now) (k .before .before .if1 .left) (k .before .if2 .left)
-    (sym (k .in-ranges .ensures) ∙ c .if3 .left) in
-    (e, words-after (a .group) (a .dbn) (a .phase) (a .ck12) (a .z1) (a .z2) (a .bodies .now) (a .words .now) (Refused 2 0) e)
+    shows-refusal _ _ _ _
+    (later (eq-eqb _ 4 (k .before .before .if1 .left)) (later (eq-eqb _ 31 (k .before .if2 .left))
+    (fails (sym (k .in-ranges .ensures) ∙ c .if3 .left))))
 
 pub write-packet-spec : {M : Type 1} → statement M
 write-packet-spec =
@@ -131,10 +165,10 @@ write-packet-spec =
     returns-2
     in-ranges-requires
     first-odd-requires
-    cast-t16
+    cast-t11
     returns-3
     first-low-requires
-    cast-t17
+    cast-t12
     returns-4
     shared-slice-read-lay-data
     shared-slice-read-lay-data-2

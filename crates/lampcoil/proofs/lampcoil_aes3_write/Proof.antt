@@ -1,15 +1,15 @@
 -- `lampcoil::lampcoil_aes3_write` meets its contract: it hands on the answer of the call. Assumes nothing.
-use Rattle.lampcoil.specs.Written.{verdictOf}
 use mathlib.Core.Path.{_∙_, ap}
 use borrow.Author.Needs.{needs}
+use Rattle.lampcoil.specs.Told.{toldVerdict}
 use Rattle.lampcoil.proofs.lampcoil_aes3_write.Statement.{statement}
 use Rattle.lampcoil.proofs.lampcoil_aes3_write.Tie as tie
 
 write-block-requires : tie.Need-write-block-requires
 write-block-requires c κs = search needs
 
-verdict-of-requires : tie.Need-verdict-of-requires
-verdict-of-requires c κs = search needs
+verdict-requires : tie.Need-verdict-requires
+verdict-requires c κs = search needs
 
 same-length : tie.Need-same-length
 same-length c = search needs
@@ -17,8 +17,7 @@ same-length c = search needs
 returns : tie.Need-returns
 returns c =
     let r = c .before .before .before .write-block in
-    (c .verdict-of .ensures ∙ ap verdictOf (r .ensures .0), r .ensures .1)
+    (c .verdict .ensures ∙ ap toldVerdict (r .ensures .0), r .ensures .1)
 
 pub lampcoil-aes3-write-spec : {M : Type 1} → statement M
-lampcoil-aes3-write-spec =
-    tie.close (tie.spec write-block-requires verdict-of-requires same-length returns)
+lampcoil-aes3-write-spec = tie.close (tie.spec write-block-requires verdict-requires same-length returns)

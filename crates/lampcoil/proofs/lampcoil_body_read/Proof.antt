@@ -23,14 +23,16 @@ enum-known-number c = search needs
 
 returns : tie.Need-returns
 returns c =
-    let told = sym (c .before .before .before .read-body .ensures) ∙ c .before .sample .given .1 in
-    let g = c .before .sample .given .0 in
-    let small = ltb-true (mag (g .0)) (2 ^ 23) (read-in (c .before .before .before .before .args .body) (g .0) (g .1 .0) (g .1 .1 .0) (g .1 .1 .1 .0) told) in
-    let fits : SFits w32 (g .0) = record { sfits = omega (arith, small) } in
-    rw (toZ-ofZ fits, told)
+    let given = c .before .sample .given in
+    let said = rw (given .1) at (c .before .before .before .read-body .ensures) in
+    let small = ltb-true (mag (given .0 .0)) (2 ^ 23) (read-in (c .before .before .before .before .args .body) (given .0 .0, given .0 .1 .0, given .0 .1 .1 .0, given .0 .1 .1 .1 .0) (sym said)) in
+    let fits : SFits w32 (given .0 .0) = record { sfits = omega (arith, small) } in
+    rw (toZ-ofZ fits, ← said)
 
 returns-2 : tie.Need-returns-2
-returns-2 c = rw (sym (c .before .before .before .read-body .ensures) ∙ c .before .number .given .1)
+returns-2 c =
+    let said = rw (c .before .number .given .1) at (c .before .before .before .read-body .ensures) in
+    rw (← said)
 
 pub lampcoil-body-read-spec : {M : Type 1} → statement M
 lampcoil-body-read-spec =

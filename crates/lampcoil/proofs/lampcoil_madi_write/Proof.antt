@@ -1,15 +1,15 @@
 -- `lampcoil::lampcoil_madi_write` meets its contract: it hands on the answer of the call. Assumes nothing.
-use Rattle.lampcoil.specs.Written.{verdictOf}
 use mathlib.Core.Path.{_∙_, ap}
 use borrow.Author.Needs.{needs}
+use Rattle.lampcoil.specs.Told.{toldVerdict}
 use Rattle.lampcoil.proofs.lampcoil_madi_write.Statement.{statement}
 use Rattle.lampcoil.proofs.lampcoil_madi_write.Tie as tie
 
 write-frame-requires : tie.Need-write-frame-requires
 write-frame-requires c κs = search needs
 
-verdict-of-requires : tie.Need-verdict-of-requires
-verdict-of-requires c κs = search needs
+verdict-requires : tie.Need-verdict-requires
+verdict-requires c κs = search needs
 
 same-length : tie.Need-same-length
 same-length c = search needs
@@ -17,8 +17,7 @@ same-length c = search needs
 returns : tie.Need-returns
 returns c =
     let r = c .before .before .before .write-frame in
-    (c .verdict-of .ensures ∙ ap verdictOf (r .ensures .0), r .ensures .1)
+    (c .verdict .ensures ∙ ap toldVerdict (r .ensures .0), r .ensures .1)
 
 pub lampcoil-madi-write-spec : {M : Type 1} → statement M
-lampcoil-madi-write-spec =
-    tie.close (tie.spec write-frame-requires verdict-of-requires same-length returns)
+lampcoil-madi-write-spec = tie.close (tie.spec write-frame-requires verdict-requires same-length returns)

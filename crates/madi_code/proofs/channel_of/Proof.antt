@@ -1,4 +1,5 @@
--- `madi_code::channel_of` meets its contract: what is left of the channel is what the definition has left. Assumes nothing.
+-- `madi_code::channel_of` meets its contract: what is left of the channel is what the definition has left. Assumes
+-- nothing.
 use mathlib.Core.Path.{_≡_, refl, sym, ap, _∙_}
 use Prim.Native.Nat.{ℕ, _+_, _-_, _*_, _^_, _≤_, _<_}
 use native.Mathlib.Omega.{arith}
@@ -13,10 +14,10 @@ use Rattle.madi_code.proofs.channel_of.Statement.{statement}
 use Rattle.madi_code.proofs.channel_of.Tie as tie
 
 abbrev Inv-loop : tie.InvT-loop
-Inv-loop v x w₀ g₀ w g = (g ≤ 8) × (w < 2 ^ (4 * g)) × (channelFrom (bigBits 40 v) (8 - g) g w ≡ channelOf (bigBits 40 v))
+Inv-loop v w₀ g₀ w g = (g ≤ 8) × (w < 2 ^ (4 * g)) × (channelFrom (bigBits 40 v) (8 - g) g w ≡ channelOf (bigBits 40 v))
 
 abbrev μ-loop : tie.MeasureT-loop
-μ-loop v x w₀ g₀ w g = 8 - g
+μ-loop v w₀ g₀ w g = 8 - g
 
 loop-holds : tie.Need-loop-holds Inv-loop μ-loop
 unfolding channelOf

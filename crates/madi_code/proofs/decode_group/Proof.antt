@@ -1,4 +1,5 @@
--- `madi_code::decode_group` meets its contract: the table is right at each of its 32 entries, and no group is above them. Assumes nothing.
+-- `madi_code::decode_group` meets its contract: the table is right at each of its 32 entries, and no group is above
+-- them. Assumes nothing.
 use borrow.Author.Needs.{needs}
 use borrow.Author.Tests.{lt-ltb, le-ltb}
 use Rattle.madi_code.proofs.GroupLaws.{group-above, group-table}

@@ -8,9 +8,9 @@ use borrow.Author.Needs.{needs}
 use lib.ListN.{length, take, set, length-set}
 use lib.Seq.{take-suc-set}
 use Rattle.bits.specs.Row.{Row}
-use Rattle.madi_frame.specs.Frame.{boundary}
-use Rattle.madi_piece.specs.Reader.{carried, readFrom}
-use Rattle.madi_read.specs.Inner.{Plain, Reached}
+use Rattle.madi_code.specs.Frame.{boundary}
+use Rattle.madi_read.specs.Reader.{carried, readOn}
+use Rattle.madi_read.specs.Inner.{sofar, Plain, Reached}
 use Rattle.madi_read.proofs.Carrying.{length-carried}
 use Rattle.madi_read.proofs.Onward.{channel-on}
 use Rattle.madi_read.proofs.channels_on.Statement.{statement}
@@ -20,12 +20,12 @@ use Rattle.madi_read.proofs.channels_on.Tie as tie
 abbrev Gone : List ℕ → ℕ → ℕ → ℕ → ℕ → ℕ → ℕ → List ℕ → ℕ → List ℕ → Type 0
 Gone line level channels bits n active s held₀ r held =
     (n ≤ r) × (r ≤ channels) × (boundary r s ≤ bits) × (length held ≡ 64)
-    × Reached (carried level bits line) channels n active s (take n held₀) r (active + (r - n)) s (take r held)
+    × Reached (carried level bits line) channels (sofar n active s (take n held₀)) (sofar r (active + (r - n)) s (take r held))
 
 abbrev Inv-loop : tie.InvT-loop
 Inv-loop table line level channels bits n active s held₀ m₀ held m =
     (n ≤ m) × (m ≤ channels) × (boundary m s ≤ bits) × (length held ≡ 64)
-    × Reached (carried level bits line) channels n active s (take n held₀) m m s (take m held)
+    × Reached (carried level bits line) channels (sofar n active s (take n held₀)) (sofar m m s (take m held))
 
 abbrev μ-loop : tie.MeasureT-loop
 μ-loop table line level channels bits n active s held₀ m₀ held m = channels - m
@@ -37,7 +37,7 @@ loop-holds c =
       omega arith,
       omega arith,
       omega arith,
-      ap (λ (k : ℕ). readFrom (carried (a .level) (a .bits) (a .line .now)) (a .channels) (a .channels + 256 - (a .n + a .s)) (a .n) k (a .s) (take (a .n) (a .held .now))) (c .if2 .taken),
+      ap (λ (k : ℕ). readOn (carried (a .level) (a .bits) (a .line .now)) (a .channels) (a .channels + 256 - (a .n + a .s)) (sofar (a .n) k (a .s) (take (a .n) (a .held .now)))) (c .if2 .taken),
     )
 
 mul-at : tie.Need-mul-at Inv-loop μ-loop
@@ -66,7 +66,7 @@ module _ (l : tie.At-loop Inv-loop μ-loop) where
         omega arith,
         omega arith,
         l .loop .inv .3,
-        ap (λ (k : ℕ). readFrom (carried (a .level) (a .bits) (a .line .now)) (a .channels) (a .channels + 256 - (l .loop .m + a .s)) (l .loop .m) k (a .s) (take (l .loop .m) (l .loop .held))) e ∙ l .loop .inv .4,
+        ap (λ (k : ℕ). readOn (carried (a .level) (a .bits) (a .line .now)) (a .channels) (a .channels + 256 - (l .loop .m + a .s)) (sofar (l .loop .m) k (a .s) (take (l .loop .m) (l .loop .held)))) e ∙ l .loop .inv .4,
       )
 
 returns : tie.Need-returns Inv-loop μ-loop
@@ -121,7 +121,7 @@ loop-again c =
       omega arith,
       length-set (l .loop .held) m (w - 2) ∙ l .loop .inv .3,
       let r : Row = carried (a .level) (a .bits) (a .line .now) in
-          ap (λ (t : List ℕ). readFrom r (a .channels) (a .channels + 256 - (m + 1 + a .s)) (m + 1) (m + 1) (a .s) t)
+          ap (λ (t : List ℕ). readOn r (a .channels) (a .channels + 256 - (m + 1 + a .s)) (sofar (m + 1) (m + 1) (a .s) t))
           (ap (λ (k : ℕ). take k (set (l .loop .held) m (w - 2))) (add-one m) ∙ take-suc-set (l .loop .held) m (w - 2) h)
           ∙ channel-on r (a .channels) m (a .s) w (omega arith) (omega arith) (omega arith) (omega (arith, length-carried (a .level) (a .bits) (a .line .now))) (found c) (take m (l .loop .held))
           ∙ l .loop .inv .4,
@@ -144,7 +144,7 @@ module _ (b : tie.After-slice-known Inv-loop μ-loop) where
         omega arith,
         omega arith,
         omega arith,
-        ap (λ (k : ℕ). readFrom (carried (a .level) (a .bits) (a .line .now)) (a .channels) (a .channels + 256 - (a .n + a .s)) (a .n) k (a .s) (take (a .n) (a .held .now))) e,
+        ap (λ (k : ℕ). readOn (carried (a .level) (a .bits) (a .line .now)) (a .channels) (a .channels + 256 - (a .n + a .s)) (sofar (a .n) k (a .s) (take (a .n) (a .held .now)))) e,
       )
 
 returns-4 : tie.Need-returns-4 Inv-loop μ-loop

@@ -1,10 +1,10 @@
--- `madi_read::levels_at` meets its contract: at the start the given level, later the level on the line. Assumes nothing.
+-- `madi_read::levels_at` meets its contract: at the start the given level, later the level on the line. Assumes
+-- nothing.
 use mathlib.Core.Path.{_≡_, sym, ap, ap₂, _∙_}
 use mathlib.Core.List.{List, _∷_}
 use Prim.Native.Nat.{ℕ, _+_, _*_, _-_, _%_, _^_, _≤_}
 use native.Mathlib.Omega.{arith}
 use borrow.Author.Needs.{needs}
-use borrow.Author.Tests.{le-leb}
 use lib.Pow.{shl-exact, pow-mono}
 use Rattle.bits.specs.Row.{odd}
 use Rattle.bits.specs.Window.{window}
@@ -12,15 +12,15 @@ use Rattle.bits.specs.Pack.{symbols}
 use Rattle.bits.proofs.Digits.{digit-same}
 use Rattle.bits.proofs.Windows.{window-lt}
 use Rattle.line.specs.Load.{loaded}
+use Rattle.line.proofs.LoadLaws.{load-window}
 use Rattle.line.proofs.NrziLaws.{before-first, before-later}
 use Rattle.madi_read.proofs.levels_at.Statement.{statement}
 use Rattle.madi_read.proofs.levels_at.Tie as tie
 
 first-levels : (line : List ℕ) (level n v : ℕ) → level ≤ 1 → n ≤ 40 → v ≡ loaded line 0 n
     → level * 2 ^ n % 2 ^ 64 + v ≡ window (odd level ∷ symbols line) 0 (n + 1)
-unfolding loaded
 first-levels line level n v hl hn e =
-    ap₂ (λ (x y : ℕ). x + y) (shl-exact {a = level} 1 n 64 (omega arith) (omega arith)) (e ∙ rw (le-leb n 56 (omega arith)))
+    ap₂ (λ (x y : ℕ). x + y) (shl-exact {a = level} 1 n 64 (omega arith) (omega arith)) (e ∙ load-window line 0 n (omega arith))
     ∙ ap (λ (x : ℕ). x * 2 ^ n + window (symbols line) 0 n) (sym (digit-same level (omega arith)))
     ∙ before-first (odd level) (symbols line) n
 
@@ -55,11 +55,10 @@ load-requires-2 : tie.Need-load-requires-2
 load-requires-2 c κs = search needs
 
 returns-2 : tie.Need-returns-2
-unfolding loaded
 returns-2 c =
     let a = c .before .before .before .args in
     let e : a .at - 1 + 1 ≡ a .at = omega arith in
-    rw (c .load2 .ensures, le-leb (a .n + 1) 56 (omega arith), before-later (odd (a .level)) (symbols (a .line .now)) (a .at - 1) (a .n + 1), e)
+    rw (c .load2 .ensures, load-window (a .line .now) (a .at - 1) (a .n + 1) (omega arith), before-later (odd (a .level)) (symbols (a .line .now)) (a .at - 1) (a .n + 1), e)
 
 pub levels-at-spec : {M : Type 1} → statement M
 levels-at-spec =

@@ -7,10 +7,10 @@ use borrow.Author.Tests.{lt-ltb, le-ltb, le-leb, eq-eqb, ne-eqb}
 use Rattle.bits.specs.Row.{bigBits}
 use Rattle.bits.specs.Window.{part, window}
 use Rattle.madi_code.specs.Channels.{channelOf}
-use Rattle.madi_frame.specs.Frame.{boundary}
+use Rattle.madi_code.specs.Frame.{boundary}
 use Rattle.madi_code.proofs.ChannelLaws.{broken-lt}
-use Rattle.madi_lookup.proofs.PairLaws.{octets-received}
-use Rattle.madi_piece.specs.Reader.{carried, pieceAt}
+use Rattle.madi_code.proofs.TableLaws.{channel-received}
+use Rattle.madi_read.specs.Reader.{carried, pieceAt}
 use Rattle.madi_read.proofs.Carrying.{length-carried, first-ten, forty}
 use Rattle.madi_read.proofs.piece_at.Statement.{statement}
 use Rattle.madi_read.proofs.piece_at.Tie as tie
@@ -33,7 +33,7 @@ found : (c : tie.After-channel-by)
 found c =
     let b = c .before .before .before in
     let a = b .before .before .before .before .args in
-    c .channel-by .ensures ∙ octets-received (a .table .now) (b .bits-at .result) (b .before .before .before .before .pre .0)
+    c .channel-by .ensures ∙ channel-received (a .table .now) (b .bits-at .result) (b .before .before .before .before .pre .0)
     ∙ ap channelOf (forty (a .level) (a .bits) (a .line .now) (omega arith) (boundary (a .n) (a .s)) (b .bits-at .result) (b .before .if2 .left) (b .bits-at .ensures))
 
 broken : (c : tie.After-known-told2) → c .before .c2 .given .0 .0 < 8
@@ -42,7 +42,7 @@ broken c =
     let b = d .before .before .before in
     let a = b .before .before .before .before in
     broken-lt (bigBits 40 (b .bits-at .result)) (c .before .c2 .given .0 .0)
-    (sym (d .channel-by .ensures ∙ octets-received (a .args .table .now) (b .bits-at .result) (a .pre .0)) ∙ c .before .c2 .given .1)
+    (sym (d .channel-by .ensures ∙ channel-received (a .args .table .now) (b .bits-at .result) (a .pre .0)) ∙ c .before .c2 .given .1)
 
 mul-at : tie.Need-mul-at
 mul-at c = search needs
@@ -121,8 +121,8 @@ channel-by-requires c κs = search needs
 enum-known-c : tie.Need-enum-known-c
 enum-known-c c = search needs
 
-slot-of-requires : tie.Need-slot-of-requires
-slot-of-requires c κs = search needs
+channel-piece-requires : tie.Need-channel-piece-requires
+channel-piece-requires c κs = search needs
 
 enum-known-c-2 : tie.Need-enum-known-c-2
 enum-known-c-2 c = search needs
@@ -140,7 +140,7 @@ returns-5 c =
     let b = d .before .before .before in
     let a = b .before .before .before .before .args in
     rw (
-      c .slot-of .ensures,
+      c .channel-piece .ensures,
       length-carried (a .level) (a .bits) (a .line .now),
       ne-eqb _ _ (b .before .before .if1 .left),
       le-leb (boundary (a .n) (a .s) + 10) (a .bits) (omega (arith, b .before .if2 .left)),
@@ -185,7 +185,7 @@ piece-at-spec =
     returns-4
     channel-by-requires
     enum-known-c
-    slot-of-requires
+    channel-piece-requires
     enum-known-c-2
     mul-t20
     add-t21

@@ -1,13 +1,16 @@
 -- `madi_read::read_checked` meets its contract: the walk, then the copy. Assumes nothing.
-use mathlib.Core.Path.{sym, ap, _∙_, subst}
+use mathlib.Core.Path.{_≡_, sym, ap, _∙_, subst}
 use Prim.Native.Nat.{ℕ}
 use native.Mathlib.Omega.{arith}
 use borrow.Author.Needs.{needs}
-use lib.ListN.{take}
-use Rattle.madi_piece.specs.Reader.{carried, Reading, readRow, answerOf, wordsOf}
-use Rattle.madi_piece.proofs.Copying.{copied-all}
+use lib.ListN.{length, take}
+use lib.Seq.{length-take-le}
+use Rattle.answer.specs.Answer.{Answer, after}
+use Rattle.answer.proofs.Residues.{whole}
+use Rattle.madi_read.specs.Reader.{carried, Frame, rowRead, wordsOf, frameSaid}
 use Rattle.madi_read.specs.Inner.{Held}
-use Rattle.madi_read.proofs.Admitting.{taken-is, refused-is}
+use Rattle.madi_read.proofs.Copying.{copied-all}
+use Rattle.madi_read.proofs.Said.{frame-read, frame-refused}
 use Rattle.madi_read.proofs.read_checked.Statement.{statement}
 use Rattle.madi_read.proofs.read_checked.Tie as tie
 
@@ -39,11 +42,14 @@ returns c =
     let a = s .args in
     let g = c .before .before .before .before .before .before .answer .given in
     let held = w .walk .last .1 .1 .1 .1 .0 in
-    let t = taken-is (readRow (carried (a .level) (a .bits) (a .line .now)) (a .channels)) (g .0 .0) (g .0 .1 .0) (sym (w .walk .ensures .0) ∙ g .1) in (
-      sym (ap answerOf (t .1)),
-      c .before .before .copy .ensures ∙ copied-all held (a .words .now) (omega arith) ∙ ap (λ (k : ℕ). take k held) (s .pre .4)
-          ∙ subst (λ (r : Reading). Held (a .channels) r held) (t .1) (w .walk .ensures .1)
-          ∙ sym (ap (λ (r : Reading). wordsOf r (a .words .now)) (t .1)),
+    let said = ap frameSaid (sym (g .1)) ∙ w .walk .ensures .0 in
+    let t = frame-read (rowRead (carried (a .level) (a .bits) (a .line .now)) (a .channels)) (g .0 .0) (g .0 .1 .0) said in
+    let front : take (a .channels) held ≡ wordsOf (t .0) = subst (λ (r : Answer Frame). Held (a .channels) r held) (t .1) (w .walk .ensures .1) in
+    let size : length (wordsOf (t .0)) ≡ length (a .words .now) =
+    ap length (sym front) ∙ length-take-le (a .channels) held (omega arith) ∙ sym (s .pre .4) in (
+      said,
+      c .before .before .copy .ensures ∙ copied-all held (a .words .now) (omega arith) ∙ ap (λ (k : ℕ). take k held) (s .pre .4) ∙ front
+          ∙ sym (whole wordsOf (t .0) (a .words .now) size) ∙ sym (ap (λ (r : Answer Frame). after wordsOf r (a .words .now)) (t .1)),
     )
 
 returns-2 : tie.Need-returns-2
@@ -52,8 +58,9 @@ returns-2 c =
     let s = w .before .before .before .before in
     let a = s .args in
     let g = c .before .answer2 .given in
-    let t = refused-is (readRow (carried (a .level) (a .bits) (a .line .now)) (a .channels)) (g .0 .0) (g .0 .1 .0) (sym (w .walk .ensures .0) ∙ g .1) in
-    (sym (ap answerOf t), sym (ap (λ (r : Reading). wordsOf r (a .words .now)) t))
+    let said = ap frameSaid (sym (g .1)) ∙ w .walk .ensures .0 in
+    let t = frame-refused (rowRead (carried (a .level) (a .bits) (a .line .now)) (a .channels)) (g .0 .0) (g .0 .1 .0) said in
+    (said, sym (ap (λ (r : Answer Frame). after wordsOf r (a .words .now)) t))
 
 pub read-checked-spec : {M : Type 1} → statement M
 read-checked-spec =

@@ -1,88 +1,106 @@
--- `madi_read::read_frame` meets its contract: the checks, then the frame. Assumes nothing.
-use mathlib.Core.Path.{sym, _∙_}
+-- `madi_read::read_frame` meets its contract: each way out is a demand of the definition, and then the frame. Assumes
+-- nothing.
+use mathlib.Core.Path.{_≡_, refl, sym, _∙_}
+use mathlib.Core.Bool.{true}
+use mathlib.Core.List.{List}
+use Prim.Native.Nat.{ℕ}
 use native.Mathlib.Omega.{arith}
 use borrow.Author.Needs.{needs}
-use borrow.Author.Tests.{eq-eqb, ne-eqb}
-use Rattle.madi_piece.specs.Reader.{readFrame}
-use Rattle.madi_read.proofs.Admitting.{Ranged, ranged}
+use borrow.Author.Tests.{le-leb, lt-leb, eq-eqb, ne-eqb}
+use lib.ListN.{length}
+use Rattle.answer.specs.Answer.{Answer.refused, mapped, after}
+use Rattle.answer.specs.Demand.{Demand, Stops, AllMet, _&_}
+use Rattle.answer.specs.Demand.Stops.{fails, later}
+use Rattle.answer.proofs.Chains.{passing, stopped}
+use Rattle.madi_code.specs.Frame.{counted}
+use Rattle.madi_code.proofs.FrameLaws.{counted-le}
+use Rattle.madi_read.specs.Reader.{carried, rowRead, readDemands, frameRead, countsOf, wordsOf}
 use Rattle.madi_read.proofs.read_frame.Statement.{statement}
 use Rattle.madi_read.proofs.read_frame.Tie as tie
 
--- past the first check
-facts : (c : tie.Then1) → Ranged (c .before .before .before .before .args .channels) (c .before .before .before .before .args .level) (c .before .before .before .before .args .bits)
-facts c =
-    let a = c .before .before .before .before .args in
-    ranged (a .channels) (a .level) (a .bits) (sym (c .before .in-range .ensures) ∙ c .if1 .taken)
+abbrev demands : tie.Start → List Demand
+demands s = readDemands (s .args .channels) (s .args .level) (s .args .bits) (s .args .line .now) (length (s .args .words .now))
 
-in-range-requires : tie.Need-in-range-requires
-in-range-requires c κs = search needs
+-- a way out by a demand that is not met
+refuses : (s : tie.Start) {number place : ℕ} → Stops (demands s) number place
+    → (refused number place ≡ mapped countsOf (frameRead (s .args .channels) (s .args .level) (s .args .bits) (s .args .line .now) (length (s .args .words .now))))
+    × (s .args .words .now ≡ after wordsOf (frameRead (s .args .channels) (s .args .level) (s .args .bits) (s .args .line .now) (length (s .args .words .now))) (s .args .words .now))
+unfolding frameRead
+refuses s stop = rw (stopped (rowRead (carried (s .args .level) (s .args .bits) (s .args .line .now)) (s .args .channels)) stop) (refl, refl)
 
-add-if2 : tie.Need-add-if2
-add-if2 c = search needs
+counts : (c : tie.Then1) → counted (c .before .before .before .before .args .channels) ≡ true
+counts c = sym (c .before .is-counted .ensures) ∙ c .if1 .taken
+
+is-counted-requires : tie.Need-is-counted-requires
+is-counted-requires c κs = search needs
+
+add-if4 : tie.Need-add-if4
+add-if4 c = search needs
 
 spare-zero-requires : tie.Need-spare-zero-requires
-spare-zero-requires c κs = (facts (c .before .before) .short, c .before .if2 .taken)
+spare-zero-requires c κs = search needs
 
 read-checked-requires : tie.Need-read-checked-requires
 read-checked-requires c κs =
-    let t = c .before .before .before .before .before in
-    let f = facts t in
-    (f .digit, f .short, omega (arith, c .before .before .before .before .if2 .taken), f .most, c .before .before .before .if3 .taken)
+    let f = c .before .before .before in
+    let t = f .before .before .before .before in
+    (f .before .before .before .if2 .taken, search needs, search needs, counted-le _ (counts t), f .if5 .taken)
 
 same-length : tie.Need-same-length
 same-length c = search needs
 
 returns : tie.Need-returns
-unfolding readFrame
+unfolding frameRead
 returns c =
-    let z = c .before .before .before .before .before in
-    let t = z .before .before .before in
-    let e = sym (t .before .in-range .ensures) ∙ t .if1 .taken in
-    let f = eq-eqb _ _ (z .before .before .if2 .taken) in
-    let g = eq-eqb _ _ (z .before .if3 .taken) in
-    let h = sym (z .spare-zero .ensures) ∙ c .before .before .before .before .if4 .taken in
-    (c .before .before .read-checked .ensures .0 ∙ rw (e, f, g, h), c .before .before .read-checked .ensures .1 ∙ rw (e, f, g, h))
+    let z = c .before .before .before .before in
+    let f = z .before .before in
+    let t = f .before .before .before .before in
+    let s = t .before .before .before .before in
+    let m : AllMet (demands s) =
+    counts t & le-leb _ _ (f .before .before .before .if2 .taken) & le-leb _ _ (f .before .before .if3 .taken) & eq-eqb _ _ (f .before .if4 .taken)
+    & eq-eqb _ _ (f .if5 .taken) & (sym (z .before .spare-zero .ensures) ∙ z .if6 .taken) & tt in
+    rw (passing (rowRead (carried (s .args .level) (s .args .bits) (s .args .line .now)) (s .args .channels)) (demands s) m)
+    (c .before .before .read-checked .ensures)
 
 returns-2 : tie.Need-returns-2
-unfolding readFrame
 returns-2 c =
-    let z = c .before in
-    let t = z .before .before .before in
-    let e = sym (t .before .in-range .ensures) ∙ t .if1 .taken in
-    let f = eq-eqb _ _ (z .before .before .if2 .taken) in
-    let g = eq-eqb _ _ (z .before .if3 .taken) in
-    let h = sym (z .spare-zero .ensures) ∙ c .if4 .left in
-    (rw (e, f, g, h), rw (e, f, g, h))
+    let f = c .before .before in
+    let t = f .before .before .before .before in
+    refuses (t .before .before .before .before) (later (counts t) (later (le-leb _ _ (f .before .before .before .if2 .taken))
+    (later (le-leb _ _ (f .before .before .if3 .taken)) (later (eq-eqb _ _ (f .before .if4 .taken))
+    (later (eq-eqb _ _ (f .if5 .taken)) (fails (sym (c .before .spare-zero .ensures) ∙ c .if6 .left)))))))
 
 returns-3 : tie.Need-returns-3
-unfolding readFrame
 returns-3 c =
-    let t = c .before .before in
-    let e = sym (t .before .in-range .ensures) ∙ t .if1 .taken in
-    let f = eq-eqb _ _ (c .before .if2 .taken) in
-    let g = ne-eqb _ _ (c .if3 .left) in
-    (rw (e, f, g), rw (e, f, g))
+    let t = c .before .before .before .before in
+    refuses (t .before .before .before .before) (later (counts t) (later (le-leb _ _ (c .before .before .before .if2 .taken))
+    (later (le-leb _ _ (c .before .before .if3 .taken)) (later (eq-eqb _ _ (c .before .if4 .taken)) (fails (ne-eqb _ _ (c .if5 .left)))))))
 
 returns-4 : tie.Need-returns-4
-unfolding readFrame
 returns-4 c =
-    let t = c .before in
-    let e = sym (t .before .in-range .ensures) ∙ t .if1 .taken in
-    let f = ne-eqb _ _ (c .if2 .left) in
-    (rw (e, f), rw (e, f))
+    let t = c .before .before .before in
+    refuses (t .before .before .before .before) (later (counts t) (later (le-leb _ _ (c .before .before .if2 .taken))
+    (later (le-leb _ _ (c .before .if3 .taken)) (fails (ne-eqb _ _ (c .if4 .left))))))
 
 returns-5 : tie.Need-returns-5
-unfolding readFrame
 returns-5 c =
-    let e = sym (c .before .in-range .ensures) ∙ c .if1 .left in
-    (rw e, rw e)
+    let t = c .before .before in
+    refuses (t .before .before .before .before) (later (counts t) (later (le-leb _ _ (c .before .if2 .taken)) (fails (lt-leb _ _ (c .if3 .left)))))
+
+returns-6 : tie.Need-returns-6
+returns-6 c =
+    let t = c .before in
+    refuses (t .before .before .before .before) (later (counts t) (fails (lt-leb _ _ (c .if2 .left))))
+
+returns-7 : tie.Need-returns-7
+returns-7 c = refuses (c .before .before .before .before) (fails (sym (c .before .is-counted .ensures) ∙ c .if1 .left))
 
 pub read-frame-spec : {M : Type 1} → statement M
 read-frame-spec =
     tie.close
     (tie.spec
-    in-range-requires
-    add-if2
+    is-counted-requires
+    add-if4
     spare-zero-requires
     read-checked-requires
     same-length
@@ -90,4 +108,6 @@ read-frame-spec =
     returns-2
     returns-3
     returns-4
-    returns-5)
+    returns-5
+    returns-6
+    returns-7)

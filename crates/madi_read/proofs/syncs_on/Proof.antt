@@ -4,9 +4,9 @@ use mathlib.Core.List.{List}
 use Prim.Native.Nat.{ℕ, _-_, _≤_}
 use native.Mathlib.Omega.{arith}
 use borrow.Author.Needs.{needs}
-use Rattle.madi_frame.specs.Frame.{boundary}
-use Rattle.madi_piece.specs.Reader.{carried}
-use Rattle.madi_read.specs.Inner.{Reached}
+use Rattle.madi_code.specs.Frame.{boundary}
+use Rattle.madi_read.specs.Reader.{carried}
+use Rattle.madi_read.specs.Inner.{sofar, Reached}
 use Rattle.madi_read.proofs.Carrying.{length-carried, window-carried}
 use Rattle.madi_read.proofs.Onward.{sync-on}
 use Rattle.madi_read.proofs.syncs_on.Statement.{statement}
@@ -15,7 +15,7 @@ use Rattle.madi_read.proofs.syncs_on.Tie as tie
 abbrev Inv-loop : tie.InvT-loop
 Inv-loop line level channels bits n s t₀ t =
     (s ≤ t) × (t ≤ 255) × (boundary n t ≤ bits)
-    × ((active : ℕ) (words : List ℕ) → Reached (carried level bits line) channels n active s words n active t words)
+    × ((active : ℕ) (words : List ℕ) → Reached (carried level bits line) channels (sofar n active s words) (sofar n active t words))
 
 abbrev μ-loop : tie.MeasureT-loop
 μ-loop line level channels bits n s t₀ t = 255 - t

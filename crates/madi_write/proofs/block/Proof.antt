@@ -4,7 +4,7 @@ use Prim.Native.Nat.{_<_}
 use native.Mathlib.Omega.{arith}
 use borrow.Author.Needs.{needs}
 use borrow.Author.Tests.{lt-ltb, le-ltb}
-use Rattle.madi_lookup.proofs.PairLaws.{pairs-sent}
+use Rattle.madi_code.proofs.TableLaws.{groups-sent}
 use Rattle.madi_write.specs.Inner.{sentWord, syncsNumber, blockOf}
 use Rattle.madi_write.proofs.block.Statement.{statement}
 use Rattle.madi_write.proofs.block.Tie as tie
@@ -20,7 +20,7 @@ unfolding blockOf
 returns c =
     let s = c .before .before .before .before in
     let h : s .args .b < s .args .channels = omega arith in
-    c .bits-by .ensures ∙ pairs-sent (s .args .table .now) (c .before .sent-word .result) (s .pre .0)
+    c .bits-by .ensures ∙ groups-sent (s .args .table .now) (c .before .sent-word .result) (s .pre .0)
     ∙ rw (c .before .sent-word .ensures, lt-ltb (s .args .b) (s .args .channels) h)
 
 returns-2 : tie.Need-returns-2

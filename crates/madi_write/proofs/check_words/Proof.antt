@@ -1,7 +1,10 @@
 -- `madi_write::check_words` meets its contract: where the sum is nothing, no word breaks a rule. Assumes nothing.
 use mathlib.Core.Path.{sym}
 use borrow.Author.Needs.{needs}
-use Rattle.madi_write.proofs.Checks.{words-written}
+use Rattle.answer.specs.Answer.{Answer.accepted}
+use Rattle.answer.proofs.Chains.{passing}
+use Rattle.madi_write.specs.Writer.{wordDemands}
+use Rattle.madi_write.proofs.Checks.{sound-met}
 use Rattle.madi_write.proofs.check_words.Statement.{statement}
 use Rattle.madi_write.proofs.check_words.Tie as tie
 
@@ -9,7 +12,9 @@ faults-requires : tie.Need-faults-requires
 faults-requires c κs = search needs
 
 returns : tie.Need-returns
-returns c = sym (words-written (c .before .before .before .args .words .now) (c .before .faults .ensures (c .if1 .taken)))
+returns c =
+    let w = c .before .before .before .args .words .now in
+    sym (passing (accepted tt) (wordDemands w) (sound-met w (c .before .faults .ensures (c .if1 .taken))))
 
 find-fault-requires : tie.Need-find-fault-requires
 find-fault-requires c κs = search needs

@@ -5,7 +5,8 @@ use Prim.Native.Nat.{ℕ, _-_, _*_, _%_, _≤_, _<_}
 use native.Mathlib.Omega.{arith}
 use borrow.Author.Needs.{needs}
 use lib.ListN.{length, getD}
-use Rattle.madi_frame.specs.Frame.{evenBody}
+use Rattle.subframe.specs.Body.{evenBody}
+use Rattle.subframe.proofs.BodyLaws.{parity-lt}
 use Rattle.madi_write.proofs.Checks.{sound-more}
 use Rattle.madi_write.proofs.faults.Statement.{statement}
 use Rattle.madi_write.proofs.faults.Tie as tie
@@ -21,14 +22,14 @@ abbrev μ-loop : tie.MeasureT-loop
 loop-holds : tie.Need-loop-holds Inv-loop μ-loop
 loop-holds c = (omega arith, omega arith, λ z k h. absurd (omega arith))
 
-mul-body-parity : tie.Need-mul-body-parity Inv-loop μ-loop
-mul-body-parity c = search needs
+mul-parity : tie.Need-mul-parity Inv-loop μ-loop
+mul-parity c = search needs
 
-shared-slice-read-body-parity : tie.Need-shared-slice-read-body-parity Inv-loop μ-loop
-shared-slice-read-body-parity c = search needs
+shared-slice-read-parity : tie.Need-shared-slice-read-parity Inv-loop μ-loop
+shared-slice-read-parity c = search needs
 
-body-parity-requires : tie.Need-body-parity-requires Inv-loop μ-loop
-body-parity-requires c κs = search needs
+parity-requires : tie.Need-parity-requires Inv-loop μ-loop
+parity-requires c κs = search needs
 
 mul-n : tie.Need-mul-n Inv-loop μ-loop
 mul-n c = search needs
@@ -37,10 +38,10 @@ shared-slice-read-n : tie.Need-shared-slice-read-n Inv-loop μ-loop
 shared-slice-read-n c = search needs
 
 add-n : tie.Need-add-n Inv-loop μ-loop
-add-n c = omega (arith, c .before .body-parity .ensures)
+add-n c = omega (arith, c .before .parity .ensures, parity-lt (getD (c .before .before .before .before .before .before .args .words .now) (c .before .before .before .before .loop .i) 0))
 
 add-n-2 : tie.Need-add-n-2 Inv-loop μ-loop
-add-n-2 c = omega (arith, c .before .body-parity .ensures)
+add-n-2 c = omega (arith, c .before .parity .ensures, parity-lt (getD (c .before .before .before .before .before .before .args .words .now) (c .before .before .before .before .loop .i) 0))
 
 add-i : tie.Need-add-i Inv-loop μ-loop
 add-i c = search needs
@@ -52,7 +53,7 @@ loop-again : tie.Need-loop-again Inv-loop μ-loop
 loop-again c =
     let p = c .before .before .before .before in
     let w = p .before .before .args .words .now in
-    (omega arith, omega (arith, c .before .body-parity .ensures), λ z. sound-more w (p .loop .n) (p .loop .i) (c .before .body-parity .result) (c .before .body-parity .ensures) (p .loop .inv .2) z)
+    (omega arith, omega (arith, c .before .parity .ensures, parity-lt (getD (c .before .before .before .before .before .before .args .words .now) (c .before .before .before .before .loop .i) 0)), λ z. sound-more w (p .loop .n) (p .loop .i) (c .before .parity .result) (c .before .parity .ensures) (p .loop .inv .2) z)
 
 returns : tie.Need-returns Inv-loop μ-loop
 returns c = λ z k h. c .before .loop .inv .2 z k (omega arith)
@@ -64,9 +65,9 @@ faults-spec =
     Inv-loop
     μ-loop
     loop-holds
-    mul-body-parity
-    shared-slice-read-body-parity
-    body-parity-requires
+    mul-parity
+    shared-slice-read-parity
+    parity-requires
     mul-n
     shared-slice-read-n
     add-n

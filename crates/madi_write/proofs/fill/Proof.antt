@@ -1,4 +1,5 @@
--- `madi_write::fill` meets its contract: the octets passed are the frame's, and `last` is the level before the next block. Assumes nothing.
+-- `madi_write::fill` meets its contract: the octets passed are the frame's, and `last` is the level before the next
+-- block. Assumes nothing.
 use mathlib.Core.Path.{_≡_, refl, ap, ap₂, subst, _∙_}
 use mathlib.Core.List.{List, _++_}
 use Prim.Native.Nat.{ℕ, _+_, _*_, _-_, _/_, _%_, _^_, _≤_, _<_}
@@ -11,6 +12,7 @@ use lib.Pow.{pow-mono, shl-exact, shl-lt, shr-le}
 use Rattle.bits.specs.Window.{window}
 use Rattle.bits.proofs.Filling.{over, length-over}
 use Rattle.bits.proofs.Windows.{window-lt}
+use Rattle.madi_code.proofs.TableLaws.{groups-sent, groups-send}
 use Rattle.madi_write.specs.Writer.{frameRow, frameOctets, needed}
 use Rattle.madi_write.specs.Inner.{syncsNumber, Levels}
 use Rattle.madi_write.proofs.Frames.{block-window, fewer-syncs}
@@ -26,25 +28,25 @@ Inv-loop channels words syncs level line₀ table idle whole last₀ b₀ line l
 abbrev μ-loop : tie.MeasureT-loop
 μ-loop channels words syncs level line₀ table idle whole last₀ b₀ line last b = channels + syncs / 4 - b
 
-pairs-requires : tie.Need-pairs-requires Inv-loop μ-loop
-pairs-requires c κs = search needs
+groups-requires : tie.Need-groups-requires Inv-loop μ-loop
+groups-requires c κs = search needs
 
-channel-bits-requires : tie.Need-channel-bits-requires Inv-loop μ-loop
-channel-bits-requires c κs = search needs
+bits-by-requires : tie.Need-bits-by-requires Inv-loop μ-loop
+bits-by-requires c κs = search needs
 
 last-lt : (c : tie.At-loop Inv-loop μ-loop) → c .loop .last < 2
 last-lt c =
-    let a = c .before .before .before .before .before .args in
+    let a = c .before .before .before .before .before .before .args in
     omega (arith, c .loop .inv .3, window-lt (sent (a .channels) (a .words .now) (a .syncs) (a .level)) (40 * c .loop .b) 1)
 
 -- the levels of a whole block
 whole-block : (c : tie.After-levels-after Inv-loop μ-loop)
     → c .levels-after .result
-    ≡ window (sent (c .before .before .before .before .before .before .before .before .before .args .channels) (c .before .before .before .before .before .before .before .before .before .args .words .now)
-    (c .before .before .before .before .before .before .before .before .before .args .syncs) (c .before .before .before .before .before .before .before .before .before .args .level)) (40 * c .before .before .before .before .loop .b) 41
+    ≡ window (sent (c .before .before .before .before .before .before .before .before .before .before .args .channels) (c .before .before .before .before .before .before .before .before .before .before .args .words .now)
+    (c .before .before .before .before .before .before .before .before .before .before .args .syncs) (c .before .before .before .before .before .before .before .before .before .before .args .level)) (40 * c .before .before .before .before .loop .b) 41
 whole-block c =
     let p = c .before .before .before .before in
-    let a = p .before .before .before .before .before .args in
+    let a = p .before .before .before .before .before .before .args in
     block-levels (a .channels) (a .words .now) (a .syncs) (a .level) (omega arith) (p .loop .b) (p .loop .last) (c .before .block .result) (c .levels-after .result)
     (omega arith) (p .loop .inv .3) (c .before .block .ensures) (c .levels-after .ensures)
 
@@ -66,14 +68,14 @@ rest-small c k h =
     )
 
 last-block : (c : tie.After-levels-after2 Inv-loop μ-loop)
-    → c .levels-after2 .result * 2 ^ (40 - 10 * (c .before .before .before .before .before .before .before .args .syncs % 4))
-    ≡ window (sent (c .before .before .before .before .before .before .before .args .channels) (c .before .before .before .before .before .before .before .args .words .now)
-    (c .before .before .before .before .before .before .before .args .syncs) (c .before .before .before .before .before .before .before .args .level))
-    (40 * (c .before .before .before .before .before .before .before .args .channels + c .before .before .before .before .before .before .before .args .syncs / 4)) 41
+    → c .levels-after2 .result * 2 ^ (40 - 10 * (c .before .before .before .before .before .before .before .before .args .syncs % 4))
+    ≡ window (sent (c .before .before .before .before .before .before .before .before .args .channels) (c .before .before .before .before .before .before .before .before .args .words .now)
+    (c .before .before .before .before .before .before .before .before .args .syncs) (c .before .before .before .before .before .before .before .before .args .level))
+    (40 * (c .before .before .before .before .before .before .before .before .args .channels + c .before .before .before .before .before .before .before .before .args .syncs / 4)) 41
 unfolding syncsNumber
 last-block c =
     let p = c .before .before in
-    let a = p .before .before .before .before .before .args in
+    let a = p .before .before .before .before .before .before .args in
     let k = a .syncs % 4 in
     let whole = a .channels + a .syncs / 4 in
     let z : p .loop .b ≡ whole = omega arith in
@@ -87,18 +89,21 @@ add-whole c = search needs
 
 loop-holds : tie.Need-loop-holds Inv-loop μ-loop
 loop-holds c =
-    let a = c .before .before .before .before .args in
+    let a = c .before .before .before .before .before .args in
     (omega arith, refl, refl, first-level (a .channels) (a .words .now) (a .syncs) (a .level) (omega arith))
 
 mul-levels-after : tie.Need-mul-levels-after Inv-loop μ-loop
 mul-levels-after c = omega (arith, last-lt (c .before))
 
 block-requires : tie.Need-block-requires Inv-loop μ-loop
-block-requires c κs = (c .before .before .before .before .pairs .ensures, c .before .before .before .channel-bits .ensures, c .before .before .before .before .before .before .before .pre .2, c .before .before .before .before .before .before .before .pre .4)
+block-requires c κs =
+    let g = c .before .before .before .before .before in
+    let p = g .before .before .before .pre in
+    (groups-send _ (g .groups .ensures), c .before .before .before .bits-by .ensures ∙ groups-sent _ 0 (groups-send _ (g .groups .ensures)), p .2, p .4)
 
 add-levels-after : tie.Need-add-levels-after Inv-loop μ-loop
 add-levels-after c =
-    let a = c .before .before .before .before .before .before .before .before .args in
+    let a = c .before .before .before .before .before .before .before .before .before .args in
     let b = c .before .before .before .loop .b in
     omega (
       arith,
@@ -128,7 +133,7 @@ loop-less c = search needs
 loop-again : tie.Need-loop-again Inv-loop μ-loop
 loop-again c =
     let p = c .before .before .before .before .before .before .before .before in
-    let a = p .before .before .before .before .before .args in
+    let a = p .before .before .before .before .before .before .args in
     let b = p .loop .b in
     let new : List ℕ = frameOctets (a .channels) (a .words .now) (a .syncs) (a .level) in
     let y = c .before .before .before .before .levels-after .result in
@@ -162,7 +167,7 @@ shr-levels-after c = search needs
 
 add-levels-after-2 : tie.Need-add-levels-after-2 Inv-loop μ-loop
 unfolding syncsNumber
-add-levels-after-2 c = record { fits = rest-small (c .before) (c .before .before .before .before .before .before .args .syncs % 4) (omega arith) }
+add-levels-after-2 c = record { fits = rest-small (c .before) (c .before .before .before .before .before .before .before .args .syncs % 4) (omega arith) }
 
 levels-after-requires-2 : tie.Need-levels-after-requires-2 Inv-loop μ-loop
 levels-after-requires-2 c κs = search needs
@@ -197,7 +202,7 @@ returns : tie.Need-returns Inv-loop μ-loop
 returns c =
     let t = c .before .before .before .before in
     let p = t .before .before in
-    let a = p .before .before .before .before .before .args in
+    let a = p .before .before .before .before .before .before .args in
     let k = a .syncs % 4 in
     let whole = a .channels + a .syncs / 4 in
     let new : List ℕ = frameOctets (a .channels) (a .words .now) (a .syncs) (a .level) in
@@ -221,8 +226,8 @@ fill-spec =
     (tie.spec
     Inv-loop
     μ-loop
-    pairs-requires
-    channel-bits-requires
+    groups-requires
+    bits-by-requires
     add-whole
     loop-holds
     mul-levels-after

@@ -1,8 +1,9 @@
 -- `records::block` meets its contract. Assumes nothing.
 use mathlib.Core.Path.{ap, ap₂, _∙_}
 use Prim.Native.Nat.{ℕ}
-use Rattle.aes3_read.specs.Reader.{readAnswer}
-use Rattle.records.specs.Record.{ofBlock, blockOutcome}
+use Rattle.aes3_read.specs.Reader.{readAnswer, crccs}
+use Rattle.answer.specs.Answer.{mapped}
+use Rattle.records.specs.Record.{blockContent, blockRecord}
 use borrow.Author.Needs.{needs}
 use Rattle.records.proofs.block.Statement.{statement}
 use Rattle.records.proofs.block.Tie as tie
@@ -26,15 +27,15 @@ of-block-requires : tie.Need-of-block-requires
 of-block-requires c κs = search needs
 
 returns : tie.Need-returns
-unfolding blockOutcome
+unfolding blockRecord
 returns c =
     let r = c .before .before .before in
     let side = r .before .before .before in
     let samples = side .before in
     c .of-block .ensures
-    ∙ ap ofBlock
+    ∙ ap (mapped blockContent)
     (r .read-block .ensures .0
-    ∙ ap₂ (λ (m n : ℕ). readAnswer (samples .before .before .args .line .now) m n) (samples .no-samples .ensures) (side .no-side .ensures))
+    ∙ ap₂ (λ (m n : ℕ). mapped crccs (readAnswer (samples .before .before .args .line .now) m n)) (samples .no-samples .ensures) (side .no-side .ensures))
 
 pub block-spec : {M : Type 1} → statement M
 block-spec =

@@ -6,45 +6,45 @@ use native.Mathlib.Omega.{arith}
 use borrow.Author.Needs.{needs}
 use lib.ListN.{length, getD, set}
 use Rattle.bits.proofs.Filling.{over, over-next, over-all}
-use Rattle.records.specs.Record.{paired}
-use Rattle.records.proofs.RecordLaws.{length-paired, paired-at}
+use Rattle.records.specs.Record.{bigEndian}
+use Rattle.records.proofs.RecordLaws.{length-words, word-at}
 use Rattle.records.proofs.fill_words.Statement.{statement}
 use Rattle.records.proofs.fill_words.Tie as tie
 
 abbrev Inv-loop : tie.InvT-loop
-Inv-loop octets words₀ i₀ words i = (i ≤ 31) × (length words ≡ 31) × (words ≡ over i (paired octets) words₀)
+Inv-loop octets words₀ i₀ words i = (i ≤ 31) × (length words ≡ 31) × (words ≡ over i (bigEndian octets) words₀)
 
 abbrev μ-loop : tie.MeasureT-loop
 μ-loop octets words₀ i₀ words i = 31 - i
 
 -- one word more
-next : (octets old : List ℕ) (i : ℕ) {words : List ℕ} {v : ℕ} → length octets ≡ 62 → length old ≡ 31 → i < 31
-    → words ≡ over i (paired octets) old → v ≡ getD octets (i * 2) 0 * 256 + getD octets (i * 2 + 1) 0
-    → set words i v ≡ over (i + 1) (paired octets) old
-next octets old i h k l done e =
-    ap₂ (λ (ws : List ℕ) (x : ℕ). set ws i x) done (e ∙ paired-at 31 octets i h l)
-    ∙ over-next i (paired octets) old 0 (omega (arith, length-paired 31 octets h)) (omega arith)
+word-more : (octets old : List ℕ) (i : ℕ) {words : List ℕ} {v : ℕ} → length octets ≡ 62 → length old ≡ 31 → i < 31
+    → words ≡ over i (bigEndian octets) old → v ≡ getD octets (i * 2) 0 * 256 + getD octets (i * 2 + 1) 0
+    → set words i v ≡ over (i + 1) (bigEndian octets) old
+word-more octets old i h k l done e =
+    ap₂ (λ (ws : List ℕ) (x : ℕ). set ws i x) done (e ∙ word-at 31 octets i h l)
+    ∙ over-next i (bigEndian octets) old 0 (omega (arith, length-words 31 octets h)) (omega arith)
 
 loop-holds : tie.Need-loop-holds Inv-loop μ-loop
 loop-holds c = (search needs, search needs, refl)
 
-mul-pair : tie.Need-mul-pair Inv-loop μ-loop
-mul-pair c = search needs
+mul-big-endian : tie.Need-mul-big-endian Inv-loop μ-loop
+mul-big-endian c = search needs
 
-shared-slice-read-pair : tie.Need-shared-slice-read-pair Inv-loop μ-loop
-shared-slice-read-pair c = search needs
+shared-slice-read-big-endian : tie.Need-shared-slice-read-big-endian Inv-loop μ-loop
+shared-slice-read-big-endian c = search needs
 
-mul-pair-2 : tie.Need-mul-pair-2 Inv-loop μ-loop
-mul-pair-2 c = search needs
+mul-big-endian-2 : tie.Need-mul-big-endian-2 Inv-loop μ-loop
+mul-big-endian-2 c = search needs
 
-add-pair : tie.Need-add-pair Inv-loop μ-loop
-add-pair c = search needs
+add-big-endian : tie.Need-add-big-endian Inv-loop μ-loop
+add-big-endian c = search needs
 
-shared-slice-read-pair-2 : tie.Need-shared-slice-read-pair-2 Inv-loop μ-loop
-shared-slice-read-pair-2 c = search needs
+shared-slice-read-big-endian-2 : tie.Need-shared-slice-read-big-endian-2 Inv-loop μ-loop
+shared-slice-read-big-endian-2 c = search needs
 
-pair-requires : tie.Need-pair-requires Inv-loop μ-loop
-pair-requires c κs = search needs
+big-endian-requires : tie.Need-big-endian-requires Inv-loop μ-loop
+big-endian-requires c κs = search needs
 
 mul-words : tie.Need-mul-words Inv-loop μ-loop
 mul-words c = search needs
@@ -64,7 +64,7 @@ loop-again c =
     let s = a .before .before .before in (
       search needs,
       search needs,
-      next (s .args .octets .now) (s .args .words .now) (a .loop .i) (s .pre .0) (s .pre .1) (omega arith) (a .loop .inv .2) (c .pair .ensures),
+      word-more (s .args .octets .now) (s .args .words .now) (a .loop .i) (s .pre .0) (s .pre .1) (omega arith) (a .loop .inv .2) (c .big-endian .ensures),
     )
 
 same-length : tie.Need-same-length Inv-loop μ-loop
@@ -75,7 +75,7 @@ returns c =
     let s = c .before .before .before .before in
     let octets = s .args .octets .now in
     c .before .loop .inv .2
-    ∙ over-all (c .before .loop .i) (paired octets) (s .args .words .now) (omega (arith, length-paired 31 octets (s .pre .0))) (omega arith)
+    ∙ over-all (c .before .loop .i) (bigEndian octets) (s .args .words .now) (omega (arith, length-words 31 octets (s .pre .0))) (omega arith)
 
 pub fill-words-spec : {M : Type 1} → statement M
 fill-words-spec =
@@ -84,12 +84,12 @@ fill-words-spec =
     Inv-loop
     μ-loop
     loop-holds
-    mul-pair
-    shared-slice-read-pair
-    mul-pair-2
-    add-pair
-    shared-slice-read-pair-2
-    pair-requires
+    mul-big-endian
+    shared-slice-read-big-endian
+    mul-big-endian-2
+    add-big-endian
+    shared-slice-read-big-endian-2
+    big-endian-requires
     mul-words
     slice-write-words
     add-i

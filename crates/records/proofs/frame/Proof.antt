@@ -2,55 +2,63 @@
 use mathlib.Core.Path.{_≡_, sym, ap, _∙_}
 use mathlib.Core.List.{List}
 use Prim.Native.Nat.{ℕ, _+_, _*_, _≤_}
-use borrow.Author.Tests.{lt-ltb, le-ltb}
+use borrow.Author.Needs.{needs}
+use borrow.Author.Tests.{lt-leb, le-leb}
 use lib.ListN.{length, getD, drop}
 use lib.Seq.{length-take-le}
-use Rattle.madi_piece.specs.Reader.{readFrame, answerOf}
-use Rattle.records.specs.Record.{ofFrame, frameOutcome}
+use Rattle.answer.specs.Answer.{mapped}
+use Rattle.answer.specs.Demand.{_&_}
+use Rattle.answer.specs.Demand.Stops.{fails}
+use Rattle.answer.proofs.Chains.{passing, stopped}
+use Rattle.madi_read.specs.Reader.{frameRead, countsOf}
+use Rattle.records.specs.Record.{frameContent, frameDemands, frameRecord}
 use Rattle.records.proofs.RecordLaws.{to-the-end}
-use borrow.Author.Needs.{needs}
 use Rattle.records.proofs.frame.Statement.{statement}
 use Rattle.records.proofs.frame.Tie as tie
 
 -- the frame of numbers that the code took out of the octets
 framed : (s : List ℕ) {a l b n : ℕ} {line : List ℕ} → 4 ≤ length s → a ≡ getD s 0 0 → l ≡ getD s 1 0
-    → b ≡ getD s 2 0 * 256 + getD s 3 0 → line ≡ drop 4 s → n ≡ a → ofFrame (answerOf (readFrame a l b line n)) ≡ frameOutcome s
-unfolding frameOutcome
-framed s h ea el eb ed en = rw (en, ea, el, eb, ed, le-ltb (length s) 4 h)
+    → b ≡ getD s 2 0 * 256 + getD s 3 0 → line ≡ drop 4 s → n ≡ a → mapped frameContent (mapped countsOf (frameRead a l b line n)) ≡ frameRecord s
+unfolding frameRecord
+framed s h ea el eb ed en =
+    rw (en, ea, el, eb, ed) (sym (passing _ (frameDemands s) (le-leb 4 (length s) h & tt)))
 
 returns : tie.Need-returns
-unfolding frameOutcome
-returns c = simp (lt-ltb _ _ (c .if1 .taken))
+unfolding frameRecord
+returns c = sym (stopped _ (fails (lt-leb _ _ (c .if1 .taken))))
 
-shared-slice-read-wide : tie.Need-shared-slice-read-wide
-shared-slice-read-wide c = search needs
+shared-slice-read-octet : tie.Need-shared-slice-read-octet
+shared-slice-read-octet c = search needs
 
-wide-requires : tie.Need-wide-requires
-wide-requires c κs = search needs
+octet-requires : tie.Need-octet-requires
+octet-requires c κs = search needs
 
-shared-slice-read-wide-2 : tie.Need-shared-slice-read-wide-2
-shared-slice-read-wide-2 c = search needs
+shared-slice-read-octet-2 : tie.Need-shared-slice-read-octet-2
+shared-slice-read-octet-2 c = search needs
 
-wide-requires-2 : tie.Need-wide-requires-2
-wide-requires-2 c κs = search needs
+octet-requires-2 : tie.Need-octet-requires-2
+octet-requires-2 c κs = search needs
 
-shared-slice-read-pair : tie.Need-shared-slice-read-pair
-shared-slice-read-pair c = search needs
+cast-level : tie.Need-cast-level
+cast-level c = search needs
 
-shared-slice-read-pair-2 : tie.Need-shared-slice-read-pair-2
-shared-slice-read-pair-2 c = search needs
+shared-slice-read-big-endian : tie.Need-shared-slice-read-big-endian
+shared-slice-read-big-endian c = search needs
 
-pair-requires : tie.Need-pair-requires
-pair-requires c κs = search needs
+shared-slice-read-big-endian-2 : tie.Need-shared-slice-read-big-endian-2
+shared-slice-read-big-endian-2 c = search needs
+
+big-endian-requires : tie.Need-big-endian-requires
+big-endian-requires c κs = search needs
 
 cast-bits : tie.Need-cast-bits
 cast-bits c = search needs
 
-cast-count : tie.Need-cast-count
-cast-count c = search needs
-
 no-words-requires : tie.Need-no-words-requires
 no-words-requires c κs = search needs
+
+cast-read-frame : tie.Need-cast-read-frame
+cast-read-frame c = search needs
 
 sub-read-frame : tie.Need-sub-read-frame
 sub-read-frame c = search needs
@@ -79,12 +87,12 @@ returns-2 c =
     let w = r .before .before .before in
     let p = w .before in
     let level = p .before .before .before in
-    let channels = level .before .before in
-    let e = channels .before .before in
+    let count = level .before .before in
+    let e = count .before .before in
     let s = e .before .before .args .octets .now in
     c .of-frame .ensures
-    ∙ ap ofFrame (r .read-frame .ensures .0)
-    ∙ framed s (e .if1 .left) (channels .wide .ensures .0) (level .wide2 .ensures .0) (p .pair .ensures) (to-the-end 4 s)
+    ∙ ap (mapped frameContent) (r .read-frame .ensures .0)
+    ∙ framed s (e .if1 .left) (count .octet .ensures .0) (level .octet2 .ensures .0) (p .big-endian .ensures) (to-the-end 4 s)
     (length-take-le _ _ (search needs))
 
 pub frame-spec : {M : Type 1} → statement M
@@ -92,16 +100,17 @@ frame-spec =
     tie.close
     (tie.spec
     returns
-    shared-slice-read-wide
-    wide-requires
-    shared-slice-read-wide-2
-    wide-requires-2
-    shared-slice-read-pair
-    shared-slice-read-pair-2
-    pair-requires
+    shared-slice-read-octet
+    octet-requires
+    shared-slice-read-octet-2
+    octet-requires-2
+    cast-level
+    shared-slice-read-big-endian
+    shared-slice-read-big-endian-2
+    big-endian-requires
     cast-bits
-    cast-count
     no-words-requires
+    cast-read-frame
     sub-read-frame
     part-read-frame-start
     part-read-frame-end

@@ -1,109 +1,78 @@
 -- `records::judge` meets its contract. Assumes nothing.
-use mathlib.Core.Path.{ap, _∙_}
-use Rattle.records.specs.Record.{blockOutcome, packetOutcome, frameOutcome}
-use Rattle.records.proofs.RecordLaws.{to-the-end, judged-short, judged-version, judged-block, judged-packet, judged-frame, judged-unknown}
+use mathlib.Core.Path.{_≡_, sym, ap, _∙_}
+use mathlib.Core.List.{List}
+use Prim.Native.Nat.{ℕ, _≤_}
+use native.Mathlib.Omega.{arith}
 use borrow.Author.Needs.{needs}
+use lib.ListN.{length}
+use Rattle.answer.specs.Answer.{Answer.accepted}
+use Rattle.answer.specs.Said.{numberSaid}
+use Rattle.answer.specs.declared.NumberAnswer.{NumberAnswer}
+use Rattle.answer.specs.declared.NumberAnswer.the-variants.{Number}
+use Rattle.records.specs.Record.{kindOf, byKind}
+use Rattle.records.proofs.RecordLaws.{to-the-end, kind-refused, kind-within, kind-known}
 use Rattle.records.proofs.judge.Statement.{statement}
 use Rattle.records.proofs.judge.Tie as tie
 
-returns : tie.Need-returns
-returns c = judged-short (c .before .before .args .body .now) (c .if1 .taken)
+-- a number that the code has is the kind
+known : (body : List ℕ) {a : NumberAnswer} {k : ℕ} → numberSaid a ≡ kindOf body → a ≡ Number k → kindOf body ≡ accepted k
+known body s e = sym s ∙ ap numberSaid e
 
-shared-slice-read-if2 : tie.Need-shared-slice-read-if2
-shared-slice-read-if2 c = search needs
+within : (body : List ℕ) {a : NumberAnswer} {k : ℕ} → numberSaid a ≡ kindOf body → a ≡ Number k → 2 ≤ length body
+within body {k = k} s e = kind-within body k (known body s e)
+
+kind-of-requires : tie.Need-kind-of-requires
+kind-of-requires c κs = search needs
+
+enum-known-kind : tie.Need-enum-known-kind
+enum-known-kind c = search needs
+
+sub-by-kind : tie.Need-sub-by-kind
+sub-by-kind c =
+    let q = c .before .before .before in
+    omega (arith, within (q .before .before .args .body .now) (q .kind-of .ensures) (c .before .kind .given .1))
+
+part-by-kind-start : tie.Need-part-by-kind-start
+part-by-kind-start c =
+    let q = c .before .before .before in
+    omega (arith, within (q .before .before .args .body .now) (q .kind-of .ensures) (c .before .kind .given .1))
+
+part-by-kind-end : tie.Need-part-by-kind-end
+part-by-kind-end c =
+    let q = c .before .before .before in
+    omega (arith, within (q .before .before .args .body .now) (q .kind-of .ensures) (c .before .kind .given .1))
+
+by-kind-requires : tie.Need-by-kind-requires
+by-kind-requires c κs = search needs
+
+enum-known-number : tie.Need-enum-known-number
+enum-known-number c = search needs
+
+returns : tie.Need-returns
+returns c =
+    let k = c .before .before .before in
+    let q = k .before .before in
+    let body = q .before .before .args .body .now in
+    c .by-kind .ensures
+    ∙ ap (byKind (k .kind .given .0 .0)) (to-the-end 2 body)
+    ∙ sym (kind-known body (k .kind .given .0 .0) (known body (q .kind-of .ensures) (k .kind .given .1)))
 
 returns-2 : tie.Need-returns-2
 returns-2 c =
-    let e = c .before .before in
-    judged-version (e .before .before .args .body .now) (e .if1 .left) (c .if2 .taken)
-
-shared-slice-read-kind : tie.Need-shared-slice-read-kind
-shared-slice-read-kind c = search needs
-
-sub-block : tie.Need-sub-block
-sub-block c = search needs
-
-part-block-start : tie.Need-part-block-start
-part-block-start c = search needs
-
-part-block-end : tie.Need-part-block-end
-part-block-end c = search needs
-
-block-requires : tie.Need-block-requires
-block-requires c κs = search needs
-
-returns-3 : tie.Need-returns-3
-returns-3 c =
-    let v = c .before .before .before .before in
-    let e = v .before .before in
-    let body = e .before .before .args .body .now in
-    c .block .ensures ∙ ap blockOutcome (to-the-end 2 body) ∙ judged-block body (e .if1 .left) (v .if2 .left) (c .before .before .if3 .taken)
-
-sub-packet : tie.Need-sub-packet
-sub-packet c = search needs
-
-part-packet-start : tie.Need-part-packet-start
-part-packet-start c = search needs
-
-part-packet-end : tie.Need-part-packet-end
-part-packet-end c = search needs
-
-packet-requires : tie.Need-packet-requires
-packet-requires c κs = search needs
-
-returns-4 : tie.Need-returns-4
-returns-4 c =
-    let v = c .before .before .before .before .before in
-    let e = v .before .before in
-    let body = e .before .before .args .body .now in
-    c .packet .ensures ∙ ap packetOutcome (to-the-end 2 body) ∙ judged-packet body (e .if1 .left) (v .if2 .left) (c .before .before .if4 .taken)
-
-sub-frame : tie.Need-sub-frame
-sub-frame c = search needs
-
-part-frame-start : tie.Need-part-frame-start
-part-frame-start c = search needs
-
-part-frame-end : tie.Need-part-frame-end
-part-frame-end c = search needs
-
-frame-requires : tie.Need-frame-requires
-frame-requires c κs = search needs
-
-returns-5 : tie.Need-returns-5
-returns-5 c =
-    let v = c .before .before .before .before .before .before in
-    let e = v .before .before in
-    let body = e .before .before .args .body .now in
-    c .frame .ensures ∙ ap frameOutcome (to-the-end 2 body) ∙ judged-frame body (e .if1 .left) (v .if2 .left) (c .before .before .if5 .taken)
-
-returns-6 : tie.Need-returns-6
-returns-6 c =
-    let v = c .before .before .before .before in
-    let e = v .before .before in
-    judged-unknown (e .before .before .args .body .now) (e .if1 .left) (v .if2 .left) (c .before .before .if3 .left) (c .before .if4 .left) (c .if5 .left)
+    let k = c .before in
+    let q = k .before .before in
+    sym (kind-refused (q .before .before .args .body .now) _ _ (sym (q .kind-of .ensures) ∙ ap numberSaid (k .number .given .1)))
 
 pub judge-spec : {M : Type 1} → statement M
 judge-spec =
     tie.close
     (tie.spec
+    kind-of-requires
+    enum-known-kind
+    sub-by-kind
+    part-by-kind-start
+    part-by-kind-end
+    by-kind-requires
+    enum-known-number
     returns
-    shared-slice-read-if2
-    returns-2
-    shared-slice-read-kind
-    sub-block
-    part-block-start
-    part-block-end
-    block-requires
-    returns-3
-    sub-packet
-    part-packet-start
-    part-packet-end
-    packet-requires
-    returns-4
-    sub-frame
-    part-frame-start
-    part-frame-end
-    frame-requires
-    returns-5
-    returns-6)
+    returns-2)

@@ -1,17 +1,21 @@
 -- `records::packet` meets its contract. Assumes nothing.
-use mathlib.Core.Path.{ap, _∙_}
+use mathlib.Core.Path.{sym, ap, _∙_}
 use mathlib.Core.List.{List}
 use Prim.Native.Nat.{ℕ}
 use borrow.Author.Tests.{eq-eqb, ne-eqb}
-use Rattle.hd_read.specs.Read.{readAnswer}
-use Rattle.records.specs.Record.{ofPacket, packetOutcome}
+use Rattle.hd_read.specs.Read.{readAnswer, fieldsRead}
+use Rattle.answer.specs.Answer.{mapped}
+use Rattle.answer.specs.Demand.{_&_}
+use Rattle.answer.specs.Demand.Stops.{fails}
+use Rattle.answer.proofs.Chains.{passing, stopped}
+use Rattle.records.specs.Record.{packetContent, packetDemands, packetRecord}
 use borrow.Author.Needs.{needs}
 use Rattle.records.proofs.packet.Statement.{statement}
 use Rattle.records.proofs.packet.Tie as tie
 
 returns : tie.Need-returns
-unfolding packetOutcome
-returns c = simp (ne-eqb _ _ (c .if1 .taken))
+unfolding packetRecord
+returns c = sym (stopped _ (fails (ne-eqb _ _ (c .if1 .taken))))
 
 no-packet-requires : tie.Need-no-packet-requires
 no-packet-requires c κs = search needs
@@ -35,13 +39,14 @@ of-packet-requires : tie.Need-of-packet-requires
 of-packet-requires c κs = search needs
 
 returns-2 : tie.Need-returns-2
-unfolding packetOutcome
+unfolding packetRecord
 returns-2 c =
     let r = c .before .before in
     let w = r .before .before .before .before in
     let e = w .before .before .before in
-    rw (eq-eqb _ _ (e .if1 .left))
-    (c .of-packet .ensures ∙ ap ofPacket (r .read-packet .ensures .0 ∙ ap (λ (ws : List ℕ). readAnswer ws 4) (w .fill-words .ensures)))
+    c .of-packet .ensures
+    ∙ ap (mapped packetContent) (r .read-packet .ensures .0 ∙ ap (λ (ws : List ℕ). mapped fieldsRead (readAnswer ws 4)) (w .fill-words .ensures))
+    ∙ sym (passing _ (packetDemands (e .before .before .args .octets .now)) (eq-eqb _ _ (e .if1 .left) & tt))
 
 pub packet-spec : {M : Type 1} → statement M
 packet-spec =

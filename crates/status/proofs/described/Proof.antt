@@ -24,8 +24,8 @@ mode-of-requires c κs = search needs
 user-of-requires : tie.Need-user-of-requires
 user-of-requires c κs = search needs
 
-length-of-requires : tie.Need-length-of-requires
-length-of-requires c κs = search needs
+word-length-of-requires : tie.Need-word-length-of-requires
+word-length-of-requires c κs = search needs
 
 alignment-of-requires : tie.Need-alignment-of-requires
 alignment-of-requires c κs = search needs
@@ -33,8 +33,8 @@ alignment-of-requires c κs = search needs
 returns : tie.Need-returns
 unfolding describedBy
 returns c =
-    let length = c .before in
-    let user = length .before in
+    let word = c .before in
+    let user = word .before in
     let mode = user .before in
     let rate = mode .before in
     let lock = rate .before in
@@ -43,7 +43,7 @@ returns c =
     let bytes = auxiliary .before .args in
     rw (
       c .alignment-of .ensures,
-      length .length-of .ensures,
+      word .word-length-of .ensures,
       user .user-of .ensures,
       mode .mode-of .ensures,
       rate .rate-of .ensures,
@@ -64,6 +64,6 @@ described-spec =
     rate-of-requires
     mode-of-requires
     user-of-requires
-    length-of-requires
+    word-length-of-requires
     alignment-of-requires
     returns)

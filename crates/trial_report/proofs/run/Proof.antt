@@ -3,8 +3,8 @@ use mathlib.Core.Path.{_≡_}
 use Prim.Native.Nat.{_-_, _≤_}
 use native.Mathlib.Omega.{arith}
 use lib.ListN.{length}
-use Rattle.report_text.specs.Text.{heading}
-use Rattle.report_text.proofs.Lengths.{starts, heading-size}
+use Rattle.report.specs.Text.{heading}
+use Rattle.report.proofs.Lengths.{starts, heading-size}
 use Rattle.report.proofs.Written.{step-starts, step-size}
 use Rattle.report.proofs.Whole.{step-counts}
 use borrow.Author.Needs.{needs}
@@ -44,17 +44,17 @@ least-requires c κs = search needs
 add-body : tie.Need-add-body Inv-loop μ-loop
 add-body c = search needs
 
-sub-to-read : tie.Need-sub-to-read Inv-loop μ-loop
-sub-to-read c = search needs
+sub-body-size : tie.Need-sub-body-size Inv-loop μ-loop
+sub-body-size c = search needs
 
-part-to-read-start : tie.Need-part-to-read-start Inv-loop μ-loop
-part-to-read-start c = search needs
+part-body-size-start : tie.Need-part-body-size-start Inv-loop μ-loop
+part-body-size-start c = search needs
 
-part-to-read-end : tie.Need-part-to-read-end Inv-loop μ-loop
-part-to-read-end c = search needs
+part-body-size-end : tie.Need-part-body-size-end Inv-loop μ-loop
+part-body-size-end c = search needs
 
-to-read-requires : tie.Need-to-read-requires Inv-loop μ-loop
-to-read-requires c κs = search needs
+body-size-requires : tie.Need-body-size-requires Inv-loop μ-loop
+body-size-requires c κs = search needs
 
 sub-least-2 : tie.Need-sub-least-2 Inv-loop μ-loop
 sub-least-2 c = search needs
@@ -65,38 +65,38 @@ least-requires-2 c κs = search needs
 add-end : tie.Need-add-end Inv-loop μ-loop
 add-end c = search needs
 
-sub-tell : tie.Need-sub-tell Inv-loop μ-loop
-sub-tell c = search needs
+sub-print : tie.Need-sub-print Inv-loop μ-loop
+sub-print c = search needs
 
-part-tell-start : tie.Need-part-tell-start Inv-loop μ-loop
-part-tell-start c = search needs
+part-print-start : tie.Need-part-print-start Inv-loop μ-loop
+part-print-start c = search needs
 
-part-tell-end : tie.Need-part-tell-end Inv-loop μ-loop
-part-tell-end c = search needs
+part-print-end : tie.Need-part-print-end Inv-loop μ-loop
+part-print-end c = search needs
 
-sub-tell-2 : tie.Need-sub-tell-2 Inv-loop μ-loop
-sub-tell-2 c = search needs
+sub-print-2 : tie.Need-sub-print-2 Inv-loop μ-loop
+sub-print-2 c = search needs
 
-part-tell-start-2 : tie.Need-part-tell-start-2 Inv-loop μ-loop
-part-tell-start-2 c = search needs
+part-print-start-2 : tie.Need-part-print-start-2 Inv-loop μ-loop
+part-print-start-2 c = search needs
 
-part-tell-end-2 : tie.Need-part-tell-end-2 Inv-loop μ-loop
-part-tell-end-2 c = search needs
+part-print-end-2 : tie.Need-part-print-end-2 Inv-loop μ-loop
+part-print-end-2 c = search needs
 
-tell-requires : tie.Need-tell-requires Inv-loop μ-loop
-tell-requires c κs = search needs
+print-requires : tie.Need-print-requires Inv-loop μ-loop
+print-requires c κs = search needs
 
 sub-write-all-2 : tie.Need-sub-write-all-2 Inv-loop μ-loop
-sub-write-all-2 c = step-starts _ (c .tell .ensures .0)
+sub-write-all-2 c = step-starts _ (c .print .ensures .0)
 
 part-write-all-start-2 : tie.Need-part-write-all-start-2 Inv-loop μ-loop
-part-write-all-start-2 c = step-starts _ (c .before .tell .ensures .0)
+part-write-all-start-2 c = step-starts _ (c .before .print .ensures .0)
 
 part-write-all-end-2 : tie.Need-part-write-all-end-2 Inv-loop μ-loop
 part-write-all-end-2 c =
     let t = c .before in
     let l = t .before .before .before .before .before .before .before .before .loop in
-    omega (arith, step-size (l .out) (l .inv .0) _ _ _ (t .tell .ensures .1))
+    omega (arith, step-size (l .out) (l .inv .0) _ _ _ (t .print .ensures .1))
 
 write-all-requires-2 : tie.Need-write-all-requires-2 Inv-loop μ-loop
 write-all-requires-2 c κs = search needs
@@ -104,13 +104,13 @@ write-all-requires-2 c κs = search needs
 loop-less : tie.Need-loop-less Inv-loop μ-loop
 loop-less c =
     let t = c .before .before .before .before in
-    omega (arith, step-counts _ _ _ (t .tell .ensures .0) (c .if1 .left))
+    omega (arith, step-counts _ _ _ (t .print .ensures .0) (c .if1 .left))
 
 loop-again : tie.Need-loop-again Inv-loop μ-loop
 loop-again c =
     let t = c .before .before .before .before in
     let l = t .before .before .before .before .before .before .before .before .loop in
-    (step-size (l .out) (l .inv .0) _ _ _ (t .tell .ensures .1), search needs, search needs)
+    (step-size (l .out) (l .inv .0) _ _ _ (t .print .ensures .1), search needs, search needs)
 
 slice-aggregate-write-all : tie.Need-slice-aggregate-write-all Inv-loop μ-loop
 slice-aggregate-write-all c = search needs
@@ -136,20 +136,20 @@ run-spec =
     sub-least
     least-requires
     add-body
-    sub-to-read
-    part-to-read-start
-    part-to-read-end
-    to-read-requires
+    sub-body-size
+    part-body-size-start
+    part-body-size-end
+    body-size-requires
     sub-least-2
     least-requires-2
     add-end
-    sub-tell
-    part-tell-start
-    part-tell-end
-    sub-tell-2
-    part-tell-start-2
-    part-tell-end-2
-    tell-requires
+    sub-print
+    part-print-start
+    part-print-end
+    sub-print-2
+    part-print-start-2
+    part-print-end-2
+    print-requires
     sub-write-all-2
     part-write-all-start-2
     part-write-all-end-2

@@ -1,3 +1,0 @@
-pub mod Preambles
-pub mod LineLaws
-pub mod Polarity

@@ -1,0 +1,108 @@
+-- What the hunt's answer means: `answer-right` and `right-answer` together say that it is the one right answer. Assumes
+-- nothing.
+use mathlib.Core.Path.{_≡_, refl, sym, ap, ap₂}
+use mathlib.Core.Logic.{⊎-elim}
+use mathlib.Core.Bool.{Bool, true, false, _&&_}
+use mathlib.Core.List.{List}
+use Prim.Native.Nat.{ℕ, _+_, _-_, _*_, _≤_, _<_}
+use native.Mathlib.Omega.{arith}
+use borrow.Author.Tests.{le-leb, lt-leb}
+use lib.ListN.{length, getD}
+use Rattle.bits.specs.Pick.{first}
+use Rattle.bits.specs.Pack.{symbols}
+use Rattle.bits.proofs.Tests.{both-true, no-yes, order}
+use Rattle.line.specs.Preamble.{preambleY, preambleZ, afterLevel}
+use Rattle.answer.specs.Answer.{Answer, Answer.accepted, Answer.refused}
+use Rattle.answer.specs.Demand.{provided, _&_}
+use Rattle.answer.specs.Demand.Stops.{fails}
+use Rattle.answer.proofs.Chains.{not-both, search-cases, passing, stopped}
+use Rattle.aes3_hunt.specs.Hunt.{opens, fits, huntDemands, hunted, Start, Right}
+use Rattle.aes3_hunt.specs.Hunt.Right.{smallest, none, tooLong}
+use Rattle.aes3_hunt.proofs.SameLaws.{same-means, same-self}
+
+before-y : (p : ℕ) → p + 64 - 1 ≡ p + 63
+before-y p = omega arith
+
+fits-start : (line : List ℕ) (p : ℕ) → 1 ≤ p → p + 72 ≤ length line * 8 → fits (symbols line) p ≡ true → Start line p
+unfolding fits opens
+fits-start line p l m e =
+    let h = both-true (opens (symbols line) p preambleZ) (opens (symbols line) (p + 64) preambleY) e in
+    record {
+      from = l;
+      to = m;
+      z = same-means _ _ (h .0);
+      y = rw (before-y p) at (same-means _ _ (h .1));
+    }
+
+start-fits : (line : List ℕ) (p : ℕ) → Start line p → fits (symbols line) p ≡ true
+unfolding fits opens
+start-fits line p s =
+    rw (before-y p, s .z, s .y)
+    (ap₂ (λ (a b : Bool). a && b) (same-self (afterLevel (getD (symbols line) (p - 1) false) preambleZ))
+    (same-self (afterLevel (getD (symbols line) (p + 63) false) preambleY)))
+
+-- a start stands after the candidates that were passed
+not-passed : (line : List ℕ) (n : ℕ) → ((p : ℕ) → 1 ≤ p → p < n → fits (symbols line) p ≡ false) → (q : ℕ) → Start line q → n ≤ q
+not-passed line n before q s =
+    ⊎-elim (λ (h : n ≤ q). h) (λ (h : q < n). no-yes (fits (symbols line) q) (before q (s .from) h) (start-fits line q s)) (order n q)
+
+-- what the search gives in a line that is not too long
+abbrev searched : List ℕ → Answer ℕ
+searched line = first (fits (symbols line)) 1 (length line * 8 - 72) (λ p. accepted p) (refused 17 0)
+
+pub answer-right : (line : List ℕ) → Right line (hunted line)
+unfolding hunted
+answer-right line = ⊎-elim (λ (h : length line ≤ 8192). short h) (λ (g : 8192 < length line). long g) (order (length line) 8192)
+  where
+    short : length line ≤ 8192 → Right line (provided (huntDemands line) (searched line))
+    short h =
+        rw (passing (searched line) (huntDemands line) (le-leb (length line) 8192 h & tt))
+        (search-cases (fits (symbols line)) (λ p. accepted p) (refused 17 0) 1 (length line * 8 - 72) (Right line)
+        (λ p l m f before. smallest h (fits-start line p l (omega arith) f) (not-passed line p before))
+        (λ before. none h (λ q s. absurd (omega (arith, not-passed line (1 + (length line * 8 - 72)) before q s, s .to)))))
+
+    long : 8192 < length line → Right line (provided (huntDemands line) (searched line))
+    long g =
+        let e : provided (huntDemands line) (searched line) ≡ refused 1 0 = stopped (searched line) (fails (lt-leb (length line) 8192 g)) in
+        rw e (tooLong g)
+
+one-right : (line : List ℕ) {a b : Answer ℕ} → Right line a → Right line b → a ≡ b
+one-right line (smallest {p} l s least) (smallest {p = q} l′ s′ least′) =
+    let e : p ≡ q = omega (arith, least q s′, least′ p s) in
+    ap accepted e
+one-right line (smallest {p} l s least) (none l′ never) = absurd (never p s)
+one-right line (smallest l s least) (tooLong g) = absurd (omega arith)
+one-right line (none l never) (smallest {p} l′ s least) = absurd (never p s)
+one-right line (none l never) (none l′ never′) = refl
+one-right line (none l never) (tooLong g) = absurd (omega arith)
+one-right line (tooLong g) (smallest l s least) = absurd (omega arith)
+one-right line (tooLong g) (none l never) = absurd (omega arith)
+one-right line (tooLong g) (tooLong g′) = refl
+
+pub right-answer : (line : List ℕ) {a : Answer ℕ} → Right line a → hunted line ≡ a
+right-answer line r = one-right line (answer-right line) r
+
+-- ---- the same, promise by promise
+
+pub found-fits : (line : List ℕ) (p : ℕ) → hunted line ≡ accepted p → Start line p
+found-fits line p e = go (rw e at (answer-right line))
+  where
+    go : Right line (accepted p) → Start line p
+    go (smallest l s least) = s
+
+pub found-least : (line : List ℕ) (p : ℕ) → hunted line ≡ accepted p → (q : ℕ) → Start line q → p ≤ q
+found-least line p e = go (rw e at (answer-right line))
+  where
+    go : Right line (accepted p) → (q : ℕ) → Start line q → p ≤ q
+    go (smallest l s least) = least
+
+pub none-found : (line : List ℕ) → length line ≤ 8192 → ((q : ℕ) → Start line q → ⊥) → hunted line ≡ refused 17 0
+none-found line l never = right-answer line (none l never)
+
+pub none-fits : (line : List ℕ) → hunted line ≡ refused 17 0 → (q : ℕ) → Start line q → ⊥
+none-fits line e = go (refused 17 0) refl (rw e at (answer-right line))
+  where
+    go : (a : Answer ℕ) → a ≡ refused 17 0 → Right line a → (q : ℕ) → Start line q → ⊥
+    go a f (none l never) = never
+    go a f (smallest {p} l s least) = not-both (sym f)
+    go a f (tooLong g) = absurd (let z : _≡_ {A = ℕ} 1 17 = cc in omega arith)

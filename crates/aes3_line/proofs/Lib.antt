@@ -1,0 +1,5 @@
+pub mod Preambles
+pub mod LineLaws
+pub mod Polarity
+pub mod LineTrips
+pub mod Turns

@@ -1,0 +1,13 @@
+-- `madi_read::active_right` meets its contract: the tests are the definition's. Assumes nothing.
+use borrow.Author.Tests.{eq-eqb, ne-eqb}
+use Rattle.madi_read.proofs.active_right.Statement.{statement}
+use Rattle.madi_read.proofs.active_right.Tie as tie
+
+returns : tie.Need-returns
+returns c = rw (eq-eqb _ _ (c .if1 .taken))
+
+returns-2 : tie.Need-returns-2
+returns-2 c = rw (ne-eqb _ _ (c .if1 .left))
+
+pub active-right-spec : {M : Type 1} → statement M
+active-right-spec = tie.close (tie.spec returns returns-2)

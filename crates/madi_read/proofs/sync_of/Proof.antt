@@ -1,0 +1,13 @@
+-- `madi_read::sync_of` meets its contract: the test is the definition's. Assumes nothing.
+use borrow.Author.Tests.{lt-ltb, le-ltb}
+use Rattle.madi_read.proofs.sync_of.Statement.{statement}
+use Rattle.madi_read.proofs.sync_of.Tie as tie
+
+returns : tie.Need-returns
+returns c = rw (lt-ltb _ _ (c .if1 .taken))
+
+returns-2 : tie.Need-returns-2
+returns-2 c = rw (le-ltb _ _ (c .if1 .left))
+
+pub sync-of-spec : {M : Type 1} → statement M
+sync-of-spec = tie.close (tie.spec returns returns-2)

@@ -1,3 +1,0 @@
-pub mod TextLaws
-pub mod Lengths
-pub mod Decimal

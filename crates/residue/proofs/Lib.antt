@@ -1,3 +1,0 @@
-pub mod Residues
-pub mod LineResidues
-pub mod PacketResidues
