@@ -5,19 +5,21 @@
 # make boundary    the C boundary: the library beside the second program, call by call, and the example driver
 # make promises    makes docs/WRONG-ANSWERS.md anew, from the sheets of wrong answers
 # make lib         proves the library and builds target/staticlib/liblampcoil.a for C on x86-64
+# make shared      builds build/liblampcoil.so.1 from the archive
 # make install     puts archive, header, pkg-config file, report program and its manual page under DESTDIR and PREFIX
 # make uninstall   takes them away
 # make bench       measures against C by hand and writes docs/FIGURES.md
 # make expected    makes the files that tests are held to anew, from the second program
 # make mutants     tries the comparing program itself on spoilt copies of the second program
+# make tried       runs every program on the interpreter and compiled three ways
 # make installed   tries install and uninstall in a folder of its own
 # make clean       removes what was built
 .POSIX:
 .NOTPARALLEL:
 .PHONY: report test read alone proofs edits boundary lib program install uninstall bench expected mutants promises clean header second \
 	held hand listed compare card installed
+.PHONY: tried shared
 
-VERSION = 1.0.0
 PREFIX = /usr/local
 DESTDIR =
 RECORDS = examples/desk.rec
@@ -34,20 +36,44 @@ X86 = tests/on-x86
 
 SECOND = tests/second/second.c tests/second/second_status.c tests/second/second_aes3.c tests/second/second_madi.c tests/second/second_hd.c
 SPOIL = tests/second/spoil.c
-COMPARE = tests/compare/compare.c tests/compare/compare_small.c tests/compare/compare_hd.c tests/compare/compare_madi.c \
-	tests/compare/compare_aes3.c
+COMPARE = tests/compare/compare.c tests/compare/edges.c tests/compare/compare_small.c tests/compare/compare_hd.c \
+	tests/compare/compare_madi.c tests/compare/compare_aes3.c
 HAND = bench/hand_aes3.c bench/hand_madi.c bench/hand_hd.c
 
 # ---- the library and the report program
 
-# What the library sees is proved first, several crates at a time; rt staticlib alone would take them one after the
-# other.
-lib $(ARCHIVE):
-	RT_JOBS=$(JOBS) rt check $$(sed -n 's/^lampcoil: //p' crates.txt)
-	rt staticlib lampcoil
+# One sum of the kit and of every source, so that an archive of other sources than those that stand here is never used.
+SOURCES = { rt version; find crates crates.txt -type f \( -name '*.rt' -o -name '*.antt' -o -name crates.txt \) \
+	-exec sha256sum {} + | LC_ALL=C sort; } | sha256sum
 
+# What the library sees is proved first, several crates at a time; rt staticlib alone would take them one after the
+# other. The sum is taken before: a source that changes meanwhile makes the archive old.
+$(ARCHIVE): lib
+lib:
+	@sum=$$($(SOURCES)); \
+	if [ -f $(ARCHIVE) ] && [ "$$(cat $(ARCHIVE).sum 2>/dev/null)" = "$$sum" ]; then \
+	    echo "lib: $(ARCHIVE) is of these sources"; \
+	else \
+	    rm -f $(ARCHIVE) $(ARCHIVE).sum; \
+	    RT_JOBS=$(JOBS) tests/progress build/lib.log rt check $$(sed -n 's/^lampcoil: //p' crates.txt) && \
+	    tests/progress build/staticlib.log rt staticlib lampcoil && echo "$$sum" >$(ARCHIVE).sum; \
+	fi
+
+# rt itself tells what changed since it was last proved, and proves that alone.
 program:
-	@rt check carrier_report >&2
+	@[ -f target/bin/carrier_report ] || \
+	    echo "The first run proves the report program and all that it is made of, which takes minutes; later runs prove what changed." >&2
+	@[ -f target/bin/carrier_report ] || rm -f target/stamp/carrier_report
+	@RT_JOBS=$(JOBS) tests/progress build/program.log rt check carrier_report
+
+# The archive is position-independent code (the linker refuses what is not), so C may have it as a shared library too.
+shared: lib
+	@mkdir -p build
+	soname=liblampcoil.so.$$(sed -n 's/^#define LAMPCOIL_VERSION_MAJOR //p' include/lampcoil.h); \
+	$(X86) dynamic -shared -nostdlib -Wl,-z,text -Wl,-soname,$$soname -o build/$$soname \
+	    -Wl,--whole-archive $(ARCHIVE) -Wl,--no-whole-archive && \
+	$(X86) dynamic $(CFLAGS) -Iinclude -o build/card_shared examples/card.c build/$$soname -Wl,-rpath,"$$(pwd)/build" && \
+	$(X86) kit build/card_shared | cmp - examples/card.expected && echo "shared: build/$$soname"
 
 report: program
 	@$(X86) kit target/bin/carrier_report <$(RECORDS)
@@ -57,8 +83,8 @@ report: program
 # In this order, one after the other. rt ci removes target/, so what needs the archive comes after it, when the
 # library is proved; its verdict is held back till everything else has passed, and a failure anywhere ends this
 # without it.
-test: read alone proofs edits boundary
-	@echo "logs: build/ci.log (rt ci, whole), target/log (each crate), target/must-fail (each sheet), build (the C programs)"
+test: read alone proofs edits tried boundary
+	@echo "logs: build/ci.log (rt ci, whole), target/log (each crate), target/must-fail (each sheet), build (the C programs; build/tried, each program)"
 	@cat build/verdict
 
 # What is read without running anything: the layout, the contracts, what proofs open, the papers.
@@ -70,7 +96,7 @@ read:
 	tests/papers
 
 # The C programs by themselves.
-alone: header second held hand
+alone: header second held hand mutants
 
 # All proofs, wrong answers and programs; and then why each wrong answer was refused.
 proofs:
@@ -79,7 +105,7 @@ proofs:
 edits:
 	tests/edits
 
-boundary: lib listed compare card
+boundary: lib listed compare card installed
 
 promises:
 	@mkdir -p build
@@ -93,36 +119,45 @@ build/stand_in.o: $(SECOND) tests/second/second.h
 	for f in $(SECOND); do $(CC) -std=c11 -O2 -c -o build/stand_in/$${f##*/}.o build/stand_in/$${f##*/} || exit 1; done
 	ld -r -o $@ build/stand_in/*.o
 
-# The header, as C and, where there is a compiler for it, as C++.
+# The header beside the Rattle source; its texts beside the papers; and as C and, where there is a compiler for it, as
+# C++.
 header:
+	tests/header
+	tests/texts
 	echo '#include "lampcoil.h"' | $(CC) $(CFLAGS) -Iinclude -x c -fsyntax-only -
 	if command -v c++ >/dev/null; then \
 	    echo '#include "lampcoil.h"' | c++ -std=c++11 -Wall -Wextra -Werror -pedantic -Iinclude -x c++ -fsyntax-only -; fi
 
-# The second program on what is written down with its answer, watched by the sanitisers where the compiler has them.
+# The second program on what is written down with its answer, watched by the sanitisers where the compiler has them;
+# and on every constant of the header.
 second: build/stand_in.o
-	$(CC) $(CFLAGS) $$(CC="$(CC)" tests/sanitise) -Iinclude -o build/listed_second tests/listed.c build/stand_in/*.c
-	build/listed_second
+	for t in listed constants; do \
+	    $(CC) $(CFLAGS) $$(CC="$(CC)" tests/sanitise) -Iinclude -o build/$${t}_second tests/$$t.c build/stand_in/*.c || exit 1; \
+	    build/$${t}_second || exit 1; done
 
 # The library on the same.
 listed: $(ARCHIVE)
 	@mkdir -p build
-	$(X86) cc $(CFLAGS) -Iinclude -o build/listed tests/listed.c $(ARCHIVE)
-	$(X86) run build/listed
+	for t in listed constants; do \
+	    $(X86) cc $(CFLAGS) -Iinclude -o build/$$t tests/$$t.c $(ARCHIVE) || exit 1; \
+	    $(X86) run build/$$t || exit 1; done
 
 # Every file that a test is held to is what the second program gives.
 held:
 	CC="$(CC)" CFLAGS="$(CFLAGS)" tests/make-expected build/expected
 	for f in $$(cd build/expected && find . -type f); do cmp build/expected/$$f $$f || exit 1; done
 
-# The C by hand that the library is measured against, held to the second program.
+# The C by hand that the library is measured against, held to the second program: each function that bench.c calls
+# takes the library's place in the comparing program, once for either search; the entries that are not written by hand
+# are the second program's own.
 hand: build/stand_in.o
-	@mkdir -p build/hand
-	for f in $(HAND) bench/hand_start.c; do \
-	    $(CC) $(CFLAGS) -O3 $(INCLUDES) '-DHAND(name)=lampcoil_##name' -c -o build/hand/$${f##*/}.o $$f || exit 1; done
-	$(CC) $(CFLAGS) $(INCLUDES) -Wl,--allow-multiple-definition -o build/compare_hand build/hand/*.o $(COMPARE) $(SPOIL) $(SECOND) \
-	    build/stand_in.o
-	build/compare_hand >build/compare_hand.txt || { cat build/compare_hand.txt; exit 1; }
+	for f in $$(grep -o 'hand_[a-z0-9_]*(' bench/hand.h | grep -v '^hand_init_' | sort -u); do \
+	    grep -q " $${f%(}$$" bench/in_place.h || { echo "hand: $${f%(} is not held to the second program"; exit 1; }; done
+	for search in AT_ONCE BY_CANDIDATE; do \
+	    $(CC) $(CFLAGS) -O3 $(INCLUDES) -Ibench -D$$search '-DIN_PLACE="in_place.h"' -o build/compare_hand $(COMPARE) bench/hand_start.c \
+	        $(HAND) $(SPOIL) $(SECOND) build/stand_in.o || exit 1; \
+	    build/compare_hand >build/compare_hand.txt || { cat build/compare_hand.txt; exit 1; }; done
+	tests/compared build/compare_hand.txt
 	$(CC) $(CFLAGS) -O3 $(INCLUDES) -o build/report_native bench/report_hand.c $(HAND)
 	build/report_native <examples/desk.rec | cmp - examples/desk.expected
 
@@ -130,7 +165,9 @@ hand: build/stand_in.o
 compare: $(ARCHIVE)
 	@mkdir -p build
 	$(X86) cc $(CFLAGS) $(INCLUDES) -o build/compare $(COMPARE) $(SPOIL) $(SECOND) $(ARCHIVE)
-	$(X86) run build/compare
+	$(X86) run build/compare >build/compare.txt || { cat build/compare.txt; exit 1; }
+	cat build/compare.txt
+	tests/compared build/compare.txt
 	$(X86) watch build/compare 6000
 
 # The example driver over the library.
@@ -141,7 +178,11 @@ card: $(ARCHIVE)
 	cmp build/card.txt examples/card.expected
 
 mutants:
-	CC="$(CC)" tests/compare/mutants
+	CC="$(CC)" JOBS=$(JOBS) tests/compare/mutants
+
+# Every program on the interpreter and compiled three ways, with no proof: what the kit's back end makes of it is right.
+tried:
+	tests/tried build/tried
 
 expected:
 	CC="$(CC)" CFLAGS="$(CFLAGS)" tests/make-expected build/expected
@@ -161,21 +202,24 @@ bench: $(ARCHIVE) program
 
 # ---- installing
 
-install: $(ARCHIVE)
-	[ -f target/bin/carrier_report ] || rt check carrier_report
-	mkdir -p $(DESTDIR)$(PREFIX)/lib/pkgconfig $(DESTDIR)$(PREFIX)/include $(DESTDIR)$(PREFIX)/bin $(DESTDIR)$(PREFIX)/share/man/man1
-	cp $(ARCHIVE) $(DESTDIR)$(PREFIX)/lib/liblampcoil.a
-	cp include/lampcoil.h $(DESTDIR)$(PREFIX)/include/lampcoil.h
-	sed -e 's|@PREFIX@|$(PREFIX)|' -e 's|@VERSION@|$(VERSION)|' lampcoil.pc.in >$(DESTDIR)$(PREFIX)/lib/pkgconfig/lampcoil.pc
-	cp target/bin/carrier_report $(DESTDIR)$(PREFIX)/bin/carrier_report
-	chmod 755 $(DESTDIR)$(PREFIX)/bin/carrier_report
-	cp man/carrier_report.1 $(DESTDIR)$(PREFIX)/share/man/man1/carrier_report.1
+install: lib program
+	@mkdir -p build
+	version=$$(sed -n 's/^#define LAMPCOIL_VERSION "\(.*\)"$$/\1/p' include/lampcoil.h) && [ -n "$$version" ] && \
+	    sed -e 's|@PREFIX@|$(PREFIX)|' -e "s|@VERSION@|$$version|" lampcoil.pc.in >build/lampcoil.pc
+	install -d "$(DESTDIR)$(PREFIX)/lib/pkgconfig" "$(DESTDIR)$(PREFIX)/include" "$(DESTDIR)$(PREFIX)/bin" \
+	    "$(DESTDIR)$(PREFIX)/share/man/man1"
+	install -m 644 $(ARCHIVE) "$(DESTDIR)$(PREFIX)/lib/liblampcoil.a"
+	install -m 644 include/lampcoil.h "$(DESTDIR)$(PREFIX)/include/lampcoil.h"
+	install -m 644 build/lampcoil.pc "$(DESTDIR)$(PREFIX)/lib/pkgconfig/lampcoil.pc"
+	install -m 755 target/bin/carrier_report "$(DESTDIR)$(PREFIX)/bin/carrier_report"
+	install -m 644 man/carrier_report.1 "$(DESTDIR)$(PREFIX)/share/man/man1/carrier_report.1"
 
 uninstall:
-	rm -f $(DESTDIR)$(PREFIX)/lib/liblampcoil.a $(DESTDIR)$(PREFIX)/include/lampcoil.h $(DESTDIR)$(PREFIX)/lib/pkgconfig/lampcoil.pc \
-	    $(DESTDIR)$(PREFIX)/bin/carrier_report $(DESTDIR)$(PREFIX)/share/man/man1/carrier_report.1
+	rm -f "$(DESTDIR)$(PREFIX)/lib/liblampcoil.a" "$(DESTDIR)$(PREFIX)/include/lampcoil.h" \
+	    "$(DESTDIR)$(PREFIX)/lib/pkgconfig/lampcoil.pc" "$(DESTDIR)$(PREFIX)/bin/carrier_report" \
+	    "$(DESTDIR)$(PREFIX)/share/man/man1/carrier_report.1"
 
-installed: $(ARCHIVE)
+installed: lib program
 	tests/install
 
 clean:

@@ -1,5 +1,6 @@
-/* Measures the library against the same work by hand, in one process and one run: medians of interleaved rounds, as a table.
-   Nothing here fails by the clock; it fails only if the two do not agree. */
+/* Measures the library against the same work by hand, in one process and one run: medians of interleaved rounds, as a
+   table. Nothing here fails by the clock; it fails only if the two do not agree, in the whole answer and in every
+   buffer that they fill. */
 #define _POSIX_C_SOURCE 200809L
 #include "hand.h"
 #include <stdio.h>
@@ -17,30 +18,48 @@ static uint16_t packet[31], damaged[31], back_packet[31];
 static uint8_t copy_from[HUNTED], copy_to[HUNTED];
 static void *(*volatile copy)(void *, const void *, size_t) = memcpy;
 
-/* What one operation needs: the call in both, what it answers as one number, and the octets of its carrier. */
+/* One operation in one of the two: the call that is timed, with the number that it answers, and the same call with its
+   whole answer laid at `to`, whose size comes back. */
+typedef struct { uint32_t (*timed)(void); size_t (*whole)(void *to); } program;
+
+/* A row of the table: what is called, what is made ready before, the octets of the carrier, the buffers that a call
+   fills. */
 typedef struct {
     const char *name;
-    uint32_t (*library)(void), (*hand)(void);
+    const program *library, *hand;
     void (*prepare)(void);
     size_t octets;
+    struct { void *at; size_t octets; } filled[2];
 } operation;
 
-/* The number that an entry answers, from the library and by hand. */
-#define BOTH(name, entry, arguments)                                                                                             \
-    static uint32_t library_##name(void) { return lampcoil_##entry arguments.number; }                                          \
-    static uint32_t by_hand_##name(void) { return hand_##entry arguments.number; }
+enum { MOST_ANSWER = 128, MOST_FILLED = 4096 };
 
-BOTH(aes3_write, aes3_write, (samples, 384, side, 144, 0, back_line, 3072))
-BOTH(aes3_read, aes3_read, (line, 3072, back_samples, 384, back_side, 144))
-BOTH(find, aes3_find, (hunted, HUNTED))
-BOTH(madi_write, madi_write, (64, words, 64, SYNCS, 0, back_madi, sizeof back_madi))
-BOTH(madi_read, madi_read, (64, 0, LAMPCOIL_MADI_BITS(64, SYNCS), madi, sizeof madi, back_words, 64))
-BOTH(hd_write, hd_write, (1, 17, 1234, 0, 1, 0, bodies, 4, back_packet, 31))
-BOTH(hd_read, hd_read, (packet, 31, back_bodies, 4))
-BOTH(repair, hd_repair, (packet, 31, back_packet, 31))
-BOTH(repair_damaged, hd_repair, (damaged, 31, back_packet, 31))
+#define PROGRAM(name, type, call)                                                                                                \
+    static uint32_t name##_timed(void) { return call.number; }                                                                   \
+    static size_t name##_whole(void *to)                                                                                         \
+    {                                                                                                                            \
+        type answer = call;                                                                                                      \
+        memcpy(to, &answer, sizeof answer);                                                                                      \
+        return sizeof answer;                                                                                                    \
+    }                                                                                                                            \
+    static const program name = {name##_timed, name##_whole};
 
-static uint32_t by_hand_find_by_candidate(void) { return hand_aes3_find_by_candidate(hunted, HUNTED).number; }
+/* An entry of the library and the same by hand. */
+#define BOTH(name, type, entry, arguments)                                                                                       \
+    PROGRAM(library_##name, type, lampcoil_##entry arguments)                                                                    \
+    PROGRAM(by_hand_##name, type, hand_##entry arguments)
+
+BOTH(aes3_write, lampcoil_verdict, aes3_write, (samples, 384, side, 144, 0, back_line, 3072))
+BOTH(aes3_read, lampcoil_aes3_read_answer, aes3_read, (line, 3072, back_samples, 384, back_side, 144))
+BOTH(find, lampcoil_aes3_start, aes3_find, (hunted, HUNTED))
+BOTH(madi_write, lampcoil_verdict, madi_write, (64, words, 64, SYNCS, 0, back_madi, sizeof back_madi))
+BOTH(madi_read, lampcoil_madi_read_answer, madi_read,
+     (64, 0, LAMPCOIL_MADI_BITS(64, SYNCS), madi, sizeof madi, back_words, 64))
+BOTH(hd_write, lampcoil_verdict, hd_write, (1, 17, 1234, 0, 1, 0, bodies, 4, back_packet, 31))
+BOTH(hd_read, lampcoil_hd_read_answer, hd_read, (packet, 31, back_bodies, 4))
+BOTH(repair, lampcoil_hd_repair_answer, hd_repair, (packet, 31, back_packet, 31))
+BOTH(repair_damaged, lampcoil_hd_repair_answer, hd_repair, (damaged, 31, back_packet, 31))
+PROGRAM(by_hand_by_candidate, lampcoil_aes3_start, hand_aes3_find_by_candidate(hunted, HUNTED))
 
 static uint32_t state = 1;
 
@@ -114,6 +133,27 @@ static double median(double *t)
 
 static volatile uint32_t sink;
 
+/* Calls one of the two over buffers that hold nothing of the other, and keeps its answer and what it filled. */
+static size_t call_whole(const operation *o, const program *p, uint8_t answer[MOST_ANSWER], uint8_t kept[2][MOST_FILLED])
+{
+    for (int k = 0; k < 2 && o->filled[k].octets != 0; k++)
+        memset(o->filled[k].at, 0xA5, o->filled[k].octets);
+    size_t n = p->whole(answer);
+    for (int k = 0; k < 2 && o->filled[k].octets != 0; k++)
+        memcpy(kept[k], o->filled[k].at, o->filled[k].octets);
+    return n;
+}
+
+static int agree(const operation *o)
+{
+    static uint8_t answers[2][MOST_ANSWER], kept[2][2][MOST_FILLED];
+    size_t n = call_whole(o, o->library, answers[0], kept[0]), m = call_whole(o, o->hand, answers[1], kept[1]);
+    int same = n == m && memcmp(answers[0], answers[1], n) == 0;
+    for (int k = 0; k < 2; k++)
+        same = same && memcmp(kept[0][k], kept[1][k], o->filled[k].octets) == 0;
+    return same;
+}
+
 static double time_call(uint32_t (*call)(void), int times)
 {
     double from = now();
@@ -135,32 +175,35 @@ static void measure(const operation *o)
 {
     double library[ROUNDS], hand[ROUNDS], copied[ROUNDS];
     o->prepare();
-    int times = (int)(300000 / (time_call(o->hand, 20) + 1)) + 4;
+    int times = (int)(300000 / (time_call(o->hand->timed, 20) + 1)) + 4;
     for (int k = 0; k < ROUNDS; k++) {
-        hand[k] = time_call(o->hand, times);
-        library[k] = time_call(o->library, times);
+        hand[k] = time_call(o->hand->timed, times);
+        library[k] = time_call(o->library->timed, times);
         copied[k] = time_copy(o->octets, 8 * times);
     }
     double l = median(library), h = median(hand), c = median(copied);
     printf("| %s | %.0f | %.0f | %.2f | %.0f | %.1f |\n", o->name, l, h, l / h, c, l / c);
 }
 
+#define FILLS(buffer) {buffer, sizeof buffer}
+
+static const operation all[] = {
+    {"AES3 write, a block", &library_aes3_write, &by_hand_aes3_write, nothing, 3072, {FILLS(back_line)}},
+    {"AES3 read, a block", &library_aes3_read, &by_hand_aes3_read, nothing, 3072, {FILLS(back_samples), FILLS(back_side)}},
+    {"hunt, 8,192 octets at random, no start; C 64 symbols at once", &library_find, &by_hand_find, hunt_noise, HUNTED, {{0}}},
+    {"the same; C candidate by candidate", &library_find, &by_hand_by_candidate, hunt_noise, HUNTED, {{0}}},
+    {"hunt, 8,192 octets with Z in each, no start; C 64 symbols at once", &library_find, &by_hand_find, hunt_z, HUNTED, {{0}}},
+    {"the same; C candidate by candidate", &library_find, &by_hand_by_candidate, hunt_z, HUNTED, {{0}}},
+    {"MADI write, 64 channels", &library_madi_write, &by_hand_madi_write, nothing, sizeof madi, {FILLS(back_madi)}},
+    {"MADI read, 64 channels", &library_madi_read, &by_hand_madi_read, nothing, sizeof madi, {FILLS(back_words)}},
+    {"HD write, a packet", &library_hd_write, &by_hand_hd_write, nothing, 62, {FILLS(back_packet)}},
+    {"HD read, a packet", &library_hd_read, &by_hand_hd_read, nothing, 62, {FILLS(back_bodies)}},
+    {"HD repair, nothing damaged", &library_repair, &by_hand_repair, nothing, 62, {FILLS(back_packet)}},
+    {"HD repair, one place in every lane", &library_repair_damaged, &by_hand_repair_damaged, nothing, 62, {FILLS(back_packet)}},
+};
+
 int main(void)
 {
-    static const operation all[] = {
-        {"AES3 write, a block", library_aes3_write, by_hand_aes3_write, nothing, 3072},
-        {"AES3 read, a block", library_aes3_read, by_hand_aes3_read, nothing, 3072},
-        {"hunt, 8,192 octets at random, no start; C 64 symbols at once", library_find, by_hand_find, hunt_noise, HUNTED},
-        {"the same; C candidate by candidate", library_find, by_hand_find_by_candidate, hunt_noise, HUNTED},
-        {"hunt, 8,192 octets with Z in each, no start; C 64 symbols at once", library_find, by_hand_find, hunt_z, HUNTED},
-        {"the same; C candidate by candidate", library_find, by_hand_find_by_candidate, hunt_z, HUNTED},
-        {"MADI write, 64 channels", library_madi_write, by_hand_madi_write, nothing, sizeof madi},
-        {"MADI read, 64 channels", library_madi_read, by_hand_madi_read, nothing, sizeof madi},
-        {"HD write, a packet", library_hd_write, by_hand_hd_write, nothing, 62},
-        {"HD read, a packet", library_hd_read, by_hand_hd_read, nothing, 62},
-        {"HD repair, nothing damaged", library_repair, by_hand_repair, nothing, 62},
-        {"HD repair, one place in every lane", library_repair_damaged, by_hand_repair_damaged, nothing, 62},
-    };
     hand_init_aes3();
     hand_init_madi();
     hand_init_hd();
@@ -168,7 +211,7 @@ int main(void)
     printf("| operation | library, ns | C by hand, ns | ratio | memcpy of the carrier, ns | ratio |\n|---|---|---|---|---|---|\n");
     for (size_t k = 0; k < sizeof all / sizeof all[0]; k++) {
         all[k].prepare();
-        if (all[k].library() != all[k].hand()) {
+        if (!agree(&all[k])) {
             fprintf(stderr, "bench: %s: the library and the C do not agree\n", all[k].name);
             return 1;
         }

@@ -1,34 +1,31 @@
-/* The same work by hand, as quick as C goes: tables and word tricks, with every check that the library makes. What the
-   library's speed is measured against. The functions have the library's types and the name hand_.. (or what HAND makes of it). */
+/* The same work by hand, as quick as C goes: tables and word tricks, with every check that the library makes. What
+   the library's speed is measured against. The functions have the library's types and the name hand_..; in_place.h
+   lists what each of them stands for, and by it `make hand` holds them all to the second program. */
 #ifndef HAND_H
 #define HAND_H
 
 #include "lampcoil.h"
 #include <string.h>
 
-#ifndef HAND
-#define HAND(name) hand_##name
-#endif
-
 /* Fills the tables of each file; once, before anything else. */
 void hand_init_aes3(void);
 void hand_init_madi(void);
 void hand_init_hd(void);
 
-lampcoil_verdict HAND(aes3_write)(const int32_t *samples, size_t samples_len, const uint8_t *side, size_t side_len, uint32_t level,
-                                  uint8_t *line, size_t line_len);
-lampcoil_aes3_read_answer HAND(aes3_read)(const uint8_t *line, size_t line_len, int32_t *samples, size_t samples_len, uint8_t *side,
-                                          size_t side_len);
-lampcoil_aes3_start HAND(aes3_find)(const uint8_t *line, size_t line_len);
-lampcoil_aes3_start HAND(aes3_find_by_candidate)(const uint8_t *line, size_t line_len);
-lampcoil_verdict HAND(madi_write)(uint32_t channels, const uint32_t *words, size_t words_len, uint32_t syncs, uint32_t level,
-                                  uint8_t *line, size_t line_len);
-lampcoil_madi_read_answer HAND(madi_read)(uint32_t channels, uint32_t level, uint32_t bits, const uint8_t *line, size_t line_len,
-                                          uint32_t *words, size_t words_len);
-lampcoil_verdict HAND(hd_write)(uint32_t group, uint32_t dbn, uint32_t phase, uint32_t ck12, uint32_t z1, uint32_t z2,
-                                const uint32_t *bodies, size_t bodies_len, uint16_t *words, size_t words_len);
-lampcoil_hd_read_answer HAND(hd_read)(const uint16_t *words, size_t words_len, uint32_t *bodies, size_t bodies_len);
-lampcoil_hd_repair_answer HAND(hd_repair)(const uint16_t *words, size_t words_len, uint16_t *repaired, size_t repaired_len);
+lampcoil_verdict hand_aes3_write(const int32_t *samples, size_t samples_len, const uint8_t *side, size_t side_len, uint32_t level,
+                                 uint8_t *line, size_t line_len);
+lampcoil_aes3_read_answer hand_aes3_read(const uint8_t *line, size_t line_len, int32_t *samples, size_t samples_len, uint8_t *side,
+                                         size_t side_len);
+lampcoil_aes3_start hand_aes3_find(const uint8_t *line, size_t line_len);
+lampcoil_aes3_start hand_aes3_find_by_candidate(const uint8_t *line, size_t line_len);
+lampcoil_verdict hand_madi_write(uint32_t channels, const uint32_t *words, size_t words_len, uint32_t syncs, uint32_t level,
+                                 uint8_t *line, size_t line_len);
+lampcoil_madi_read_answer hand_madi_read(uint32_t channels, uint32_t level, uint32_t bits, const uint8_t *line, size_t line_len,
+                                         uint32_t *words, size_t words_len);
+lampcoil_verdict hand_hd_write(uint32_t group, uint32_t dbn, uint32_t phase, uint32_t ck12, uint32_t z1, uint32_t z2,
+                               const uint32_t *bodies, size_t bodies_len, uint16_t *words, size_t words_len);
+lampcoil_hd_read_answer hand_hd_read(const uint16_t *words, size_t words_len, uint32_t *bodies, size_t bodies_len);
+lampcoil_hd_repair_answer hand_hd_repair(const uint16_t *words, size_t words_len, uint16_t *repaired, size_t repaired_len);
 
 /* Eight octets, the first highest, on a machine that has the lowest first. */
 static inline uint64_t load_be64(const uint8_t *p)

@@ -1,5 +1,6 @@
-/* AES3 by hand. An accepted subframe ends on the level that it began after, since its ones are even and each preamble ends as it
-   began; so one mask serves the whole block, and a right parity is a last symbol equal to the level before. */
+/* AES3 by hand. An accepted subframe ends on the level that it began after, since its ones are even and each preamble
+   ends as it began; so one mask serves the whole block, and a right parity is a last symbol equal to the level
+   before. */
 #include "hand.h"
 
 static uint32_t fourteen[16384]; /* 28 symbols of 14 bits, after level 0 */
@@ -79,8 +80,8 @@ static inline uint64_t subframe(uint32_t d, uint64_t preamble)
     return preamble << 56 | (uint64_t)a << 28 | (uint64_t)b << 2 | (uint64_t)(~b & 1) << 1;
 }
 
-lampcoil_verdict HAND(aes3_write)(const int32_t *samples, size_t samples_len, const uint8_t *side, size_t side_len, uint32_t level,
-                                  uint8_t *line, size_t line_len)
+lampcoil_verdict hand_aes3_write(const int32_t *samples, size_t samples_len, const uint8_t *side, size_t side_len, uint32_t level,
+                                 uint8_t *line, size_t line_len)
 {
     if (samples_len != 384 || side_len != 144 || line_len != 3072)
         return verdict(1, 0);
@@ -132,8 +133,8 @@ static lampcoil_aes3_read_answer broken(uint64_t x, uint64_t preamble, uint32_t 
     return r;
 }
 
-lampcoil_aes3_read_answer HAND(aes3_read)(const uint8_t *line, size_t line_len, int32_t *samples, size_t samples_len, uint8_t *side,
-                                          size_t side_len)
+lampcoil_aes3_read_answer hand_aes3_read(const uint8_t *line, size_t line_len, int32_t *samples, size_t samples_len, uint8_t *side,
+                                         size_t side_len)
 {
     lampcoil_aes3_read_answer r = {0, 0, 0, 0};
     int32_t kept[384];
@@ -167,7 +168,8 @@ lampcoil_aes3_read_answer HAND(aes3_read)(const uint8_t *line, size_t line_len, 
     return r;
 }
 
-/* Where the changes of Z, and of Y, begin among the 64 symbols of a word, given the changes of that word and of the next. */
+/* Where the changes of Z, and of Y, begin among the 64 symbols of a word, given the changes of that word and of the
+   next. */
 static inline void match(uint64_t now, uint64_t next, uint64_t *z, uint64_t *y)
 {
     uint64_t s1 = now << 1 | next >> 63, s2 = now << 2 | next >> 62, s3 = now << 3 | next >> 61, s4 = now << 4 | next >> 60;
@@ -188,7 +190,7 @@ static uint64_t word_at(const uint8_t *line, size_t len, size_t at)
     return x;
 }
 
-lampcoil_aes3_start HAND(aes3_find)(const uint8_t *line, size_t line_len)
+lampcoil_aes3_start hand_aes3_find(const uint8_t *line, size_t line_len)
 {
     lampcoil_aes3_start r = {0, 0, 0};
     if (line_len > 8192) {
@@ -222,7 +224,7 @@ lampcoil_aes3_start HAND(aes3_find)(const uint8_t *line, size_t line_len)
 }
 
 /* The search as the library must make it: candidate by candidate, each left at its first symbol that differs. */
-lampcoil_aes3_start HAND(aes3_find_by_candidate)(const uint8_t *line, size_t line_len)
+lampcoil_aes3_start hand_aes3_find_by_candidate(const uint8_t *line, size_t line_len)
 {
     /* the 16 places after a candidate and what must stand there, after level 0 */
     static const uint8_t due[16] = {1, 1, 1, 0, 1, 0, 0, 0, 1, 1, 1, 0, 0, 1, 0, 0};

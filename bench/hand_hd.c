@@ -1,5 +1,5 @@
-/* HD packets by hand. The check octets of all eight lanes are a sum of octets, each times a constant that copies it to the
-   octets it counts in; a lane's syndrome of six bits leads to its place by a table. */
+/* HD packets by hand. The check octets of all eight lanes are a sum of octets, each times a constant that copies it
+   to the octets it counts in; a lane's syndrome of six bits leads to its place by a table. */
 #include "hand.h"
 
 /* packing a few octets into vector registers costs more than it saves here */
@@ -64,8 +64,8 @@ static inline uint16_t last_word(uint32_t sum)
     return (uint16_t)(sum | (~sum << 1 & 0x200));
 }
 
-lampcoil_verdict HAND(hd_write)(uint32_t group, uint32_t dbn, uint32_t phase, uint32_t ck12, uint32_t z1, uint32_t z2,
-                                const uint32_t *bodies, size_t bodies_len, uint16_t *words, size_t words_len)
+lampcoil_verdict hand_hd_write(uint32_t group, uint32_t dbn, uint32_t phase, uint32_t ck12, uint32_t z1, uint32_t z2,
+                               const uint32_t *bodies, size_t bodies_len, uint16_t *words, size_t words_len)
 {
     if (bodies_len != 4 || words_len != 31)
         return verdict(1, 0);
@@ -138,7 +138,7 @@ static lampcoil_verdict broken(const uint16_t *words, const uint32_t *bodies)
     return verdict(0, 0);
 }
 
-lampcoil_hd_read_answer HAND(hd_read)(const uint16_t *words, size_t words_len, uint32_t *bodies, size_t bodies_len)
+lampcoil_hd_read_answer hand_hd_read(const uint16_t *words, size_t words_len, uint32_t *bodies, size_t bodies_len)
 {
     lampcoil_hd_read_answer r = {0, 0, 0, 0, 0, 0, 0, 0};
     uint32_t bad, sum = 0, body[4];
@@ -175,7 +175,7 @@ lampcoil_hd_read_answer HAND(hd_read)(const uint16_t *words, size_t words_len, u
     return r;
 }
 
-lampcoil_hd_repair_answer HAND(hd_repair)(const uint16_t *words, size_t words_len, uint16_t *repaired, size_t repaired_len)
+lampcoil_hd_repair_answer hand_hd_repair(const uint16_t *words, size_t words_len, uint16_t *repaired, size_t repaired_len)
 {
     lampcoil_hd_repair_answer r = {0, 0, 0};
     uint16_t octet[32] = {0};   /* places 30 and 31 take the changes that are none */

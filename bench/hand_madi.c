@@ -1,4 +1,5 @@
-/* MADI by hand. A channel is 40 line bits, five whole octets; a sync symbol has four ones, so it leaves the level as it was. */
+/* MADI by hand. A channel is 40 line bits, five whole octets; a sync symbol has four ones, so it leaves the level as
+   it was. */
 #include "hand.h"
 
 static const uint8_t five[16] = {30, 9, 20, 21, 10, 11, 14, 15, 18, 19, 22, 23, 26, 27, 28, 29};
@@ -96,8 +97,8 @@ static void put_syncs(uint8_t *line, uint32_t syncs, uint64_t level)
         line[k] = (uint8_t)(four >> (32 - 8 * k));
 }
 
-lampcoil_verdict HAND(madi_write)(uint32_t channels, const uint32_t *words, size_t words_len, uint32_t syncs, uint32_t level,
-                                  uint8_t *line, size_t line_len)
+lampcoil_verdict hand_madi_write(uint32_t channels, const uint32_t *words, size_t words_len, uint32_t syncs, uint32_t level,
+                                 uint8_t *line, size_t line_len)
 {
     if ((channels != 56 && channels != 64) || words_len - 1 >= channels || syncs - 1 > 254 || level > 1)
         return verdict(2, 0);
@@ -182,8 +183,8 @@ static lampcoil_verdict take_frame(frame *f, const uint8_t *line, uint32_t chann
     return f->read < channels || f->syncs == 0 ? verdict(10, bits) : verdict(0, 0);
 }
 
-lampcoil_madi_read_answer HAND(madi_read)(uint32_t channels, uint32_t level, uint32_t bits, const uint8_t *line, size_t line_len,
-                                          uint32_t *words, size_t words_len)
+lampcoil_madi_read_answer hand_madi_read(uint32_t channels, uint32_t level, uint32_t bits, const uint8_t *line, size_t line_len,
+                                         uint32_t *words, size_t words_len)
 {
     lampcoil_madi_read_answer r = {0, 0, 0, 0};
     uint8_t room[648];

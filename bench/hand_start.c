@@ -1,4 +1,4 @@
-/* Fills the tables before main, where the hand-written functions stand under the library's names in the comparing program. */
+/* Fills the tables before main, for the comparing program, which knows nothing of them. */
 #include "hand.h"
 
 __attribute__((constructor)) static void fill_tables(void)

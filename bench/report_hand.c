@@ -1,5 +1,5 @@
-/* The report program by hand: what the report program prints for the records on standard input, as quick as C goes, and as it does:
-   one record at a time, each line written when it is told. */
+/* The report program by hand: what the report program prints for the records on standard input, as quick as C goes,
+   and as it does: one record at a time, each line written when it is told. */
 #define _POSIX_C_SOURCE 200809L
 #include "hand.h"
 #include <string.h>

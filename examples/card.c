@@ -1,150 +1,235 @@
-/* A card driver in small: two channels of samples go out on an AES3 line, a MADI frame and an HD packet, and come back.
-   Every step prints what the library answered. */
+/* A card driver in small, as it would be written over the library: two tenants' audio goes out on an AES3 line, a MADI
+   frame and an HD packet through one scratch memory, one tenant after the other, and comes back. Every answer is tested
+   before anything else is done with what it left; and at the end the scratch memory is searched for the first tenant.
+   It ends with 0 if all went as it should. */
 #include "lampcoil.h"
 #include <stdio.h>
 #include <string.h>
 
-enum { FRAMES = 192, CHANNELS = 56, SYNCS = 9 };
+enum { FRAMES = LAMPCOIL_BLOCK_SAMPLES / 2, CHANNELS = LAMPCOIL_MADI_MOST_CHANNELS, SYNCS = 9, GROUP = 1, STRETCH = 8 };
 
-static int32_t samples[LAMPCOIL_BLOCK_SAMPLES];
-static uint8_t side[LAMPCOIL_SIDE_OCTETS];
-static uint8_t line[LAMPCOIL_BLOCK_OCTETS];
+/* What a tenant gives to be sent. */
+typedef struct {
+    const char *name;
+    int32_t samples[LAMPCOIL_BLOCK_SAMPLES];
+    uint8_t side[LAMPCOIL_SIDE_OCTETS];
+} tenant;
 
-/* Channel A carries a triangle, channel B a ramp that falls. */
-static void play(void)
+/* What the tenants share: every buffer that the library fills. */
+typedef struct {
+    uint8_t line[LAMPCOIL_BLOCK_OCTETS];
+    int32_t samples[LAMPCOIL_BLOCK_SAMPLES];
+    uint8_t side[LAMPCOIL_SIDE_OCTETS];
+    uint8_t madi[LAMPCOIL_MADI_OCTETS(CHANNELS, SYNCS)];
+    uint32_t words[CHANNELS];
+    uint16_t packet[LAMPCOIL_PACKET_WORDS], repaired[LAMPCOIL_PACKET_WORDS];
+    uint32_t bodies[LAMPCOIL_PACKET_BODIES];
+} memory;
+
+/* 1 if an answer is no acceptance, and says so. The buffers are then as they were: what another tenant left there is
+   still in them, so that nothing of them may be handed on. */
+static int refused(const char *step, uint32_t number, uint32_t place)
 {
-    for (int frame = 0; frame < FRAMES; frame++) {
-        int32_t step = frame % 48;
-        samples[2 * frame] = (step < 24 ? step - 12 : 36 - step) * 600000;
-        samples[2 * frame + 1] = 8388607 - frame * 87381;
-    }
+    if (number == LAMPCOIL_ACCEPTED)
+        return 0;
+    printf("  %s: number %u at %u, %s\n", step, number, place, lampcoil_refusal_text(number));
+    return 1;
 }
 
-/* Professional use, linear PCM, 48 kHz, stereophonic, words of 24 bits; the channels differ in byte 6, the origin. */
-static void label(uint8_t *status, char origin)
+#define REFUSED(step, answer) refused(step, (answer).number, (answer).place)
+
+static int differ(const char *step)
+{
+    printf("  %s: not what was sent\n", step);
+    return 1;
+}
+
+/* Professional use, linear PCM, 48 kHz, stereophonic, words of 24 bits; byte 6 on is the origin in letters. */
+static int label(uint8_t *status, const char *origin)
 {
     memset(status, 0, LAMPCOIL_STATUS_OCTETS);
     status[0] = 0x85;
     status[1] = 0x02;
     status[2] = 0x2C;
-    status[6] = (uint8_t)origin;
+    memcpy(status + 6, origin, strlen(origin));
     lampcoil_verdict v = lampcoil_status_seal(status, LAMPCOIL_STATUS_OCTETS);
+    if (REFUSED("status seal", v))
+        return 1;
     lampcoil_status_meaning m = lampcoil_status_read(status, LAMPCOIL_STATUS_OCTETS);
-    printf("status %c: sealed %u with %02Xh; use %u, emphasis %u, rate %u, mode %u, word length %u\n", origin, v.number, status[23],
-           m.use, m.emphasis, m.rate, m.mode, m.length);
+    if (REFUSED("status read", m))
+        return 1;
+    int said = m.use == LAMPCOIL_USE_PROFESSIONAL && m.audio == LAMPCOIL_AUDIO_LINEAR_PCM &&
+               m.rate == LAMPCOIL_RATE_48_KHZ && m.mode == LAMPCOIL_MODE_STEREOPHONIC &&
+               m.auxiliary == LAMPCOIL_AUXILIARY_24_MAIN && m.length == 24;
+    return said ? 0 : differ("status");
 }
 
-static void send_block(void)
+/* Samples that rise by a step of the tenant's own and start again below; a step of 0 is silence. */
+static int play(tenant *t, const char *name, int32_t step)
 {
-    lampcoil_verdict v = lampcoil_aes3_write(samples, 384, side, sizeof side, 0, line, sizeof line);
-    printf("aes3 write: %u at %u; the line begins", v.number, v.place);
-    for (int k = 0; k < 16; k++)
-        printf(" %02X", line[k]);
-    printf("\n");
+    t->name = name;
+    for (int32_t k = 0; k < (int32_t)LAMPCOIL_BLOCK_SAMPLES; k++)
+        t->samples[k] = step == 0 ? 0 : (step * (k + 1)) % 16777216 - 8388608;
+    memset(t->side, 0, sizeof t->side);
+    return label(t->side + LAMPCOIL_SIDE_C_A, name) || label(t->side + LAMPCOIL_SIDE_C_B, name);
 }
 
-/* The block somewhere in what the card has taken in, behind 999 octets of another one. */
-static void find_block(void)
+static int send_block(const tenant *t, memory *m)
 {
-    static uint8_t taken[999 + sizeof line];
-    memcpy(taken, line + sizeof line - 999, 999);
-    for (size_t k = 0; k < sizeof line; k++)
-        taken[999 + k] = taken[998] % 2 == 0 ? line[k] : (uint8_t)~line[k];
+    lampcoil_verdict v = lampcoil_aes3_write(t->samples, LAMPCOIL_BLOCK_SAMPLES, t->side, LAMPCOIL_SIDE_OCTETS, 0,
+                                             m->line, LAMPCOIL_BLOCK_OCTETS);
+    return REFUSED("aes3 write", v);
+}
+
+static int receive_block(const uint8_t *block, memory *m)
+{
+    lampcoil_aes3_read_answer r = lampcoil_aes3_read(block, LAMPCOIL_BLOCK_OCTETS, m->samples, LAMPCOIL_BLOCK_SAMPLES,
+                                                     m->side, LAMPCOIL_SIDE_OCTETS);
+    if (REFUSED("aes3 read", r))
+        return 1;
+    if (r.crcc_a != 1 || r.crcc_b != 1) /* never refused: what a wrong CRCC means is the driver's to say */
+        printf("  aes3 read: a status block is damaged\n");
+    return 0;
+}
+
+/* Symbols from a place on, into octets of their own: a start that is found is in general not a multiple of eight. */
+static void align(const uint8_t *taken, uint32_t position, uint8_t block[LAMPCOIL_BLOCK_OCTETS])
+{
+    const uint8_t *from = taken + position / 8;
+    uint32_t late = position % 8;
+    for (size_t k = 0; k < LAMPCOIL_BLOCK_OCTETS; k++)
+        block[k] = (uint8_t)(from[k] << late | (late == 0 ? 0 : from[k + 1] >> (8 - late)));
+}
+
+/* The card takes in symbols from anywhere: here 21 of them before the block, the last as the level before it. */
+static int find_block(memory *m)
+{
+    static uint8_t taken[LAMPCOIL_BLOCK_OCTETS + 4], block[LAMPCOIL_BLOCK_OCTETS];
+    const uint32_t before = 21;
+    memset(taken, 0, sizeof taken);
+    for (uint32_t k = 0; k < 8 * LAMPCOIL_BLOCK_OCTETS; k++)
+        if ((m->line[k / 8] >> (7 - k % 8) & 1) != 0)
+            taken[(before + k) / 8] |= (uint8_t)(0x80 >> (before + k) % 8);
     lampcoil_aes3_start s = lampcoil_aes3_find(taken, sizeof taken);
-    printf("aes3 find: %u, the block starts at symbol %u\n", s.number, s.position);
+    if (REFUSED("aes3 find", s))
+        return 1;
+    align(taken, s.position, block);
+    printf("  aes3: the block starts at symbol %u\n", s.position);
+    return receive_block(block, m);
 }
 
-static void receive_block(void)
+/* The body of a channel, 0 for A and 1 for B, in a frame. */
+static int body_of(const tenant *t, uint32_t channel, uint32_t frame, uint32_t *body)
 {
-    int32_t back[LAMPCOIL_BLOCK_SAMPLES];
-    uint8_t back_side[LAMPCOIL_SIDE_OCTETS];
-    lampcoil_aes3_read_answer r = lampcoil_aes3_read(line, sizeof line, back, 384, back_side, sizeof back_side);
-    int same = memcmp(back, samples, sizeof back) == 0 && memcmp(back_side, side, sizeof side) == 0;
-    printf("aes3 read: %u at %u; CRCC of A %u, of B %u; samples and side table %s\n", r.number, r.place, r.crcc_a, r.crcc_b,
-           same ? "same" : "other");
+    const uint8_t *columns = t->side + (channel == 0 ? LAMPCOIL_SIDE_V_A : LAMPCOIL_SIDE_V_B) + frame / 8;
+    uint32_t v = columns[LAMPCOIL_SIDE_V_A] >> frame % 8 & 1u, u = columns[LAMPCOIL_SIDE_U_A] >> frame % 8 & 1u;
+    uint32_t c = columns[LAMPCOIL_SIDE_C_A] >> frame % 8 & 1u;
+    lampcoil_body b = lampcoil_body_write(t->samples[2 * frame + channel], v, u, c);
+    *body = b.body;
+    return REFUSED("body", b);
 }
 
-/* A symbol damaged on the way: the block is refused, and what the card had before stays. */
-static void receive_damaged(void)
+/* A frame with the two channels first and all others inactive. */
+static int over_madi(const tenant *t, uint32_t frame, memory *m)
 {
-    int32_t back[LAMPCOIL_BLOCK_SAMPLES] = {7};
-    uint8_t back_side[LAMPCOIL_SIDE_OCTETS] = {7};
-    line[1000] ^= 0x10;
-    lampcoil_aes3_read_answer r = lampcoil_aes3_read(line, sizeof line, back, 384, back_side, sizeof back_side);
-    line[1000] ^= 0x10;
-    printf("aes3 read, damaged: %u at %u; buffers kept: %s\n", r.number, r.place, back[0] == 7 && back_side[0] == 7 ? "yes" : "no");
+    uint32_t sent[2], start = frame == 0 ? LAMPCOIL_MADI_BLOCK_START : 0;
+    if (body_of(t, 0, frame, &sent[0]) || body_of(t, 1, frame, &sent[1]))
+        return 1;
+    sent[0] |= start;
+    sent[1] |= start | LAMPCOIL_MADI_B_SUBFRAME;
+    lampcoil_verdict v = lampcoil_madi_write(CHANNELS, sent, 2, SYNCS, 1, m->madi, sizeof m->madi);
+    if (REFUSED("madi write", v))
+        return 1;
+    lampcoil_madi_read_answer r = lampcoil_madi_read(CHANNELS, 1, LAMPCOIL_MADI_BITS(CHANNELS, SYNCS), m->madi,
+                                                     sizeof m->madi, m->words, CHANNELS);
+    if (REFUSED("madi read", r))
+        return 1;
+    printf("  madi: %u channels active, %u syncs\n", r.active, r.syncs);
+    return memcmp(m->words, sent, sizeof sent) != 0 ? differ("madi") : 0;
 }
 
-/* V, U or C of a channel in a frame. */
-static uint32_t side_bit(uint32_t column, int frame)
+/* A packet of two frames, hurt on the way in one word and mended. A channel that is not active would be body 0. */
+static int over_hd(const tenant *t, uint32_t dbn, memory *m)
 {
-    return side[column + (uint32_t)frame / 8] >> frame % 8 & 1u;
+    uint32_t sent[LAMPCOIL_PACKET_BODIES];
+    for (uint32_t k = 0; k < LAMPCOIL_PACKET_BODIES; k++)
+        if (body_of(t, k % 2, k / 2, &sent[k]))
+            return 1;
+    lampcoil_verdict v = lampcoil_hd_write(GROUP, dbn, 1234, 0, 1, 0, sent, LAMPCOIL_PACKET_BODIES, m->packet,
+                                           LAMPCOIL_PACKET_WORDS);
+    if (REFUSED("hd write", v))
+        return 1;
+    m->packet[9] ^= 0xFF;
+    lampcoil_hd_repair_answer q = lampcoil_hd_repair(m->packet, LAMPCOIL_PACKET_WORDS, m->repaired,
+                                                     LAMPCOIL_PACKET_WORDS);
+    if (REFUSED("hd repair", q))
+        return 1;
+    lampcoil_hd_read_answer r = lampcoil_hd_read(m->repaired, LAMPCOIL_PACKET_WORDS, m->bodies, LAMPCOIL_PACKET_BODIES);
+    if (REFUSED("hd read", r))
+        return 1;
+    printf("  hd: group %u, data block %u, %u lanes mended\n", r.group, r.dbn, q.lanes);
+    return r.group != GROUP || r.dbn != dbn || memcmp(m->bodies, sent, sizeof sent) != 0 ? differ("hd") : 0;
 }
 
-static uint32_t body_of(int channel, int frame)
+/* A tenant's audio over all three carriers. */
+static int carry(const tenant *t, uint32_t dbn, memory *m)
 {
-    uint32_t at = channel == 0 ? LAMPCOIL_SIDE_V_A : LAMPCOIL_SIDE_V_B;
-    return lampcoil_body_write(samples[2 * frame + channel], side_bit(at, frame), side_bit(at + LAMPCOIL_SIDE_U_A, frame),
-                               side_bit(at + LAMPCOIL_SIDE_C_A, frame)).body;
+    printf("tenant %s\n", t->name);
+    if (send_block(t, m) || find_block(m))
+        return 1;
+    if (memcmp(m->samples, t->samples, sizeof m->samples) != 0 || memcmp(m->side, t->side, sizeof m->side) != 0)
+        return differ("aes3");
+    return over_madi(t, 0, m) || over_hd(t, dbn, m);
 }
 
-/* The two subframes of a frame as the first channels of a MADI frame. */
-static void over_madi(int frame)
+/* A block that the way has damaged: it is refused, and the buffers are as before it came. */
+static int receive_damaged(const memory *first, memory *m)
 {
-    const uint32_t bits = LAMPCOIL_MADI_BITS(CHANNELS, SYNCS);
-    uint32_t start = frame == 0 ? LAMPCOIL_MADI_BLOCK_START : 0, back[CHANNELS];
-    uint32_t words[2] = {body_of(0, frame) | start, body_of(1, frame) | LAMPCOIL_MADI_B_SUBFRAME | start};
-    uint8_t madi[LAMPCOIL_MADI_OCTETS(CHANNELS, SYNCS)];
-    lampcoil_verdict v = lampcoil_madi_write(CHANNELS, words, 2, SYNCS, 1, madi, sizeof madi);
-    lampcoil_madi_read_answer r = lampcoil_madi_read(CHANNELS, 1, bits, madi, sizeof madi, back, CHANNELS);
-    printf("madi frame %d: write %u, %zu octets; read %u, active %u, syncs %u, words %s\n", frame, v.number, sizeof madi, r.number,
-           r.active, r.syncs, back[0] == words[0] && back[1] == words[1] && back[2] == 0 ? "same" : "other");
-    madi[100] ^= 0x01;
-    r = lampcoil_madi_read(CHANNELS, 1, bits, madi, sizeof madi, back, CHANNELS);
-    printf("madi frame %d, damaged: %u at %u\n", frame, r.number, r.place);
+    static uint8_t block[LAMPCOIL_BLOCK_OCTETS];
+    memcpy(block, m->line, sizeof block);
+    block[1000] ^= 0x10;
+    printf("a damaged block\n");
+    if (!receive_block(block, m))
+        return differ("a damaged block");
+    return memcmp(m, first, sizeof *m) != 0 ? differ("after a refusal") : 0;
 }
 
-static void show_packet(const char *when, const uint16_t *words)
+static int stands(const uint8_t *stretch, const memory *m)
 {
-    uint32_t bodies[LAMPCOIL_PACKET_BODIES] = {0};
-    lampcoil_hd_read_answer r = lampcoil_hd_read(words, LAMPCOIL_PACKET_WORDS, bodies, LAMPCOIL_PACKET_BODIES);
-    printf("hd %s: %u at %u; group %u, dbn %u, phase %u, z %u %u; sample %d\n", when, r.number, r.place, r.group, r.dbn, r.phase,
-           r.z1, r.z2, (int)lampcoil_body_read(bodies[0]).sample);
+    const uint8_t *octets = (const uint8_t *)m;
+    for (size_t k = 0; k + STRETCH <= sizeof *m; k++)
+        if (octets[k] == stretch[0] && memcmp(octets + k, stretch, STRETCH) == 0)
+            return 1;
+    return 0;
 }
 
-/* The same subframes, and those of the frame after, in a packet that is damaged in every lane and repaired. */
-static void over_hd(int frame, uint32_t dbn)
+/* Looks for every stretch of octets that one tenant left, and silence would not have left, in what stands there now. */
+static int search(const memory *first, const memory *silence, const memory *now)
 {
-    uint32_t bodies[4] = {body_of(0, frame), body_of(1, frame), body_of(0, frame + 1), body_of(1, frame + 1)};
-    uint16_t words[LAMPCOIL_PACKET_WORDS], repaired[LAMPCOIL_PACKET_WORDS];
-    lampcoil_verdict v = lampcoil_hd_write(1, dbn, 1234, 0, frame == 0, 0, bodies, 4, words, LAMPCOIL_PACKET_WORDS);
-    printf("hd write: %u at %u; checksum %03Xh\n", v.number, v.place, words[30]);
-    show_packet("as sent", words);
-    words[9] ^= 0xFF;
-    show_packet("damaged", words);
-    lampcoil_hd_repair_answer q = lampcoil_hd_repair(words, LAMPCOIL_PACKET_WORDS, repaired, LAMPCOIL_PACKET_WORDS);
-    printf("hd repair: %u at %u; %u lanes differ\n", q.number, q.place, q.lanes);
-    show_packet("repaired", repaired);
-    words[20] ^= 0x04;
-    q = lampcoil_hd_repair(words, LAMPCOIL_PACKET_WORDS, repaired, LAMPCOIL_PACKET_WORDS);
-    printf("hd repair, two places in one lane: %u at %u\n", q.number, q.place);
+    const uint8_t *octets = (const uint8_t *)first;
+    unsigned own = 0, left = 0;
+    for (size_t k = 0; k + STRETCH <= sizeof *first; k++)
+        if (!stands(octets + k, silence)) {
+            own = own + 1;
+            left = left + (unsigned)stands(octets + k, now);
+        }
+    printf("%u stretches of %d octets were the first tenant's own; %u of them are left\n", own, STRETCH, left);
+    return own == 0 || left != 0;
 }
 
 int main(void)
 {
-    play();
-    label(side + LAMPCOIL_SIDE_C_A, 'A');
-    label(side + LAMPCOIL_SIDE_C_B, 'B');
-    send_block();
-    find_block();
-    receive_block();
-    receive_damaged();
-    over_madi(0);
-    over_madi(100);
-    over_hd(0, 255);
-    over_hd(2, lampcoil_hd_next_dbn(255).dbn);
-    samples[17] = 8388608;
-    lampcoil_verdict v = lampcoil_aes3_write(samples, 384, side, sizeof side, 0, line, sizeof line);
-    printf("a sample too large: %u at %u\n", v.number, v.place);
-    return 0;
+    static tenant one, two, none;
+    static memory scratch, after_one, silence;
+    if (play(&one, "NORTH", 87381) || play(&two, "WEST", 4450003) || play(&none, "quiet", 0))
+        return 1;
+    if (carry(&none, 0, &silence) || carry(&one, 255, &scratch))
+        return 1;
+    after_one = scratch;
+    if (receive_damaged(&after_one, &scratch))
+        return 1;
+    lampcoil_dbn next = lampcoil_hd_next_dbn(255);
+    if (REFUSED("next data block", next) || carry(&two, next.dbn, &scratch))
+        return 1;
+    return search(&after_one, &silence, &scratch);
 }

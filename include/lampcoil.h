@@ -1,14 +1,15 @@
 /* lampcoil.h: audio samples with their validity, user and channel-status bits, to three carriers and back.
 
-   AES3 blocks on a biphase line, MADI frames, HD-SDI audio data packets with repair. Link with liblampcoil.a (x86-64).
+   AES3 blocks on a biphase line, MADI frames, HD-SDI audio data packets with repair. Link with liblampcoil.a: it is for
+   x86-64 with the calling convention of the System V ABI (Linux and the BSDs; not Windows).
 
    What every entry does
    - It takes any value of its arguments, ends, and needs no check by its caller beforehand.
-   - Its answer begins with `number` and `place`. Number 0 is acceptance; place is then 0, and the fields after it are the
-     values named. Any other number is a refusal, LAMPCOIL_REFUSED_.. below (at the entries its last word alone is given);
-     the fields after `place` are then 0.
-   - Of several refusals that apply, the first in the order given at the entry comes back; of several places the smallest.
-     Counts and places start at 0; where no place is named it is 0.
+   - Its answer begins with `number` and `place`. Number 0 is acceptance; place is then 0, and the fields after it are
+     the values named. Any other number is a refusal, LAMPCOIL_REFUSED_.. below (at the entries its last word alone is
+     given); the fields after `place` are then 0.
+   - Of several refusals that apply, the first in the order given at the entry comes back; of several places the
+     smallest. Counts and places start at 0; where no place is named it is 0.
    - A refusal changes no buffer. An acceptance sets every element of the stretch that the entry writes, whatever stood
      there before, and changes nothing outside it.
    - No state is kept between calls, and no memory is taken. Calls from several threads do not meet, as long as their
@@ -28,25 +29,57 @@
 extern "C" {
 #endif
 
-/* Numbers that come back, and what their place is. */
+/* The version of this header and of the library beside it. A larger MAJOR may take something away; MINOR adds. */
+#define LAMPCOIL_VERSION "1.1.0"
+#define LAMPCOIL_VERSION_MAJOR 1
+#define LAMPCOIL_VERSION_MINOR 1
+#define LAMPCOIL_VERSION_PATCH 0
+
+/* Numbers that come back, and what their place is; lampcoil_refusal_text tells when each is given. */
 #define LAMPCOIL_ACCEPTED 0u
-#define LAMPCOIL_REFUSED_LENGTH 1u       /* a buffer length is not as stated */
-#define LAMPCOIL_REFUSED_RANGE 2u        /* a number is outside its range */
-#define LAMPCOIL_REFUSED_SAMPLE 3u       /* sample outside -8,388,608 to 8,388,607; place: sample index */
-#define LAMPCOIL_REFUSED_CONSUMER 4u     /* writer: status byte 0 bit 0 is 0; place: channel, 0 for A, 1 for B */
-#define LAMPCOIL_REFUSED_CRCC 5u         /* writer: status byte 23 is wrong; place: channel */
-#define LAMPCOIL_REFUSED_VALIDITY 6u     /* writer: byte 0 bit 1 is 1 and some V of that channel is 0; place: channel */
-#define LAMPCOIL_REFUSED_PREAMBLE 7u     /* not the preamble due at this subframe; place: subframe 0 to 383 */
-#define LAMPCOIL_REFUSED_SLOT 8u         /* a slot does not begin with a change of level; place: subframe */
-#define LAMPCOIL_REFUSED_PARITY 9u       /* slots 4 to 31 hold an odd number of ones; place: subframe or channel */
-#define LAMPCOIL_REFUSED_FRAME 10u       /* units do not make one MADI frame; place: bit offset of the boundary */
-#define LAMPCOIL_REFUSED_GROUP 11u       /* a five-bit group is no data group; place: bit offset of the group */
-#define LAMPCOIL_REFUSED_STATE 12u       /* a bit with a required state has the other; place: channel or word */
-#define LAMPCOIL_REFUSED_HEADER 13u      /* ADF, DID or DC not one of those listed; place: word */
-#define LAMPCOIL_REFUSED_WORD 14u        /* word above 1,023, or b8 or b9 wrong; place: word */
-#define LAMPCOIL_REFUSED_LANE 15u        /* lane fails its code; in repair, no satisfying lane within one place; place: lane */
-#define LAMPCOIL_REFUSED_CHECKSUM 16u    /* last packet word wrong; place: 30 */
-#define LAMPCOIL_REFUSED_NO_START 17u    /* search finds no block start */
+#define LAMPCOIL_REFUSED_LENGTH 1u
+#define LAMPCOIL_REFUSED_RANGE 2u
+#define LAMPCOIL_REFUSED_SAMPLE 3u       /* place: sample index; at body_write 0 */
+#define LAMPCOIL_REFUSED_CONSUMER 4u     /* place: channel, 0 for A, 1 for B */
+#define LAMPCOIL_REFUSED_CRCC 5u         /* place: channel */
+#define LAMPCOIL_REFUSED_VALIDITY 6u     /* place: channel */
+#define LAMPCOIL_REFUSED_PREAMBLE 7u     /* place: subframe 0 to 383 */
+#define LAMPCOIL_REFUSED_SLOT 8u         /* place: subframe */
+#define LAMPCOIL_REFUSED_PARITY 9u       /* place: subframe or channel; at body_read 0 */
+#define LAMPCOIL_REFUSED_FRAME 10u       /* place: bit offset of the boundary */
+#define LAMPCOIL_REFUSED_GROUP 11u       /* place: bit offset of the group */
+#define LAMPCOIL_REFUSED_STATE 12u       /* place: channel or word; at body_read 0 */
+#define LAMPCOIL_REFUSED_HEADER 13u      /* place: word */
+#define LAMPCOIL_REFUSED_WORD 14u        /* place: word */
+#define LAMPCOIL_REFUSED_LANE 15u        /* place: lane; at lane_repair 0 */
+#define LAMPCOIL_REFUSED_CHECKSUM 16u    /* place: 30 */
+#define LAMPCOIL_REFUSED_NO_START 17u
+
+/* When a number is given, in words; never null. */
+static inline const char *lampcoil_refusal_text(uint32_t number)
+{
+    static const char *const texts[] = {
+        "accepted",
+        "a buffer length is not as stated",
+        "a number is outside its range",
+        "a sample is outside -8,388,608 to 8,388,607",
+        "writer: status byte 0 bit 0 is 0",
+        "writer: status byte 23 is wrong",
+        "writer: byte 0 bit 1 is 1 and some V of that channel is 0",
+        "not the preamble due at this subframe",
+        "a slot does not begin with a change of level",
+        "slots 4 to 31 hold an odd number of ones",
+        "units do not make one MADI frame",
+        "a five-bit group is no data group",
+        "a bit with a required state has the other",
+        "ADF, DID or DC not one of those listed",
+        "a word above 1,023, or b8 or b9 wrong",
+        "a lane fails its code; in repair, no satisfying lane within one place",
+        "the last packet word is wrong",
+        "the search finds no block start",
+    };
+    return number < sizeof texts / sizeof texts[0] ? texts[number] : "not a number of this library";
+}
 
 /* Lengths, in elements of the buffer. */
 #define LAMPCOIL_STATUS_OCTETS 24u
@@ -79,7 +112,7 @@ typedef struct { uint32_t number, place; } lampcoil_verdict;
 
 /* ---- Subframe body: slot k has weight 2^k, slots 4 to 31; the low four weights are 0. ---- */
 
-/* The body of a sample with its V, U and C; P is found. v, u and c are 0 or 1, else RANGE; then the sample, else SAMPLE. */
+/* The body of a sample with its V, U and C; P is found. v, u and c are 0 or 1, else RANGE; the sample, else SAMPLE. */
 typedef struct { uint32_t number, place, body; } lampcoil_body;
 lampcoil_body lampcoil_body_write(int32_t sample, uint32_t v, uint32_t u, uint32_t c);
 
@@ -96,19 +129,25 @@ lampcoil_verdict lampcoil_status_seal(uint8_t *status, size_t status_len);
 typedef struct { uint32_t number, place, right; } lampcoil_status_check;
 lampcoil_status_check lampcoil_status_right(const uint8_t *status, size_t status_len);
 
-/* The CRCC, one bit at a time: start, then feed each bit in sending order and hand the stages on. The stage of weight 2^k
-   holds the coefficient of x^k; byte 23 takes them from x^7 in its bit 0 to x^0 in its bit 7.
+/* The CRCC, one bit at a time: start, then feed each bit in sending order and hand the stages on. The stage of weight
+   2^k holds the coefficient of x^k; byte 23 takes them from x^7 in its bit 0 to x^0 in its bit 7. So stages 0 after all
+   192 bits, byte 23 among them, mean that the block is right, and any other stages that it is not.
    feed: stages above 255, or a bit that is neither 0 nor 1: RANGE. */
 typedef struct { uint32_t number, place, stages; } lampcoil_crcc;
 lampcoil_crcc lampcoil_crcc_start(void);
 lampcoil_crcc lampcoil_crcc_feed(uint32_t stages, uint32_t bit);
 
-/* The meaning of bytes 0 to 2, by the tables of BS.647-3, part 3, 3.3.1 to 3.3.3. LENGTH unless 24 octets; no state is ever
-   refused. Each field takes the values named below, in the order of its table. A reserved state is LAMPCOIL_RESERVED, and its bits
-   are in the field `.._bits` beside it, the lowest of them at weight 1; for every other state that field is 0.
-   Under consumer use every field after `use` is 0. The fields are filled by the same tables for linear PCM and for other
-   purposes; the Recommendation (part 3, 3.4) keeps only lock, rate, user bits and auxiliary use independent of that choice.
-   Word length under a reserved or user-defined auxiliary use is reserved. The CRCC plays no part here. */
+/* Byte 23 from the stages after bits 0 to 183: the coefficient of x^7 in its bit 0. Stages above 255: RANGE. */
+typedef struct { uint32_t number, place, value; } lampcoil_crcc_octet;
+lampcoil_crcc_octet lampcoil_crcc_value(uint32_t stages);
+
+/* The meaning of bytes 0 to 2, by the tables of BS.647-3, part 3, 3.3.1 to 3.3.3. LENGTH unless 24 octets; no state is
+   ever refused. Each field takes the values named below, in the order of its table. A reserved state is
+   LAMPCOIL_RESERVED, and its bits are in the field `.._bits` beside it, the lowest of them at weight 1; for every other
+   state that field is 0. Under consumer use every field after `use` is 0. The fields are filled by the same tables for
+   linear PCM and for other purposes; the Recommendation (part 3, 3.4) keeps only lock, rate, user bits and auxiliary
+   use independent of that choice. Word length under a reserved or user-defined auxiliary use is reserved. The CRCC
+   plays no part here. */
 #define LAMPCOIL_RESERVED 255u
 
 #define LAMPCOIL_USE_CONSUMER 0u
@@ -175,44 +214,46 @@ typedef struct {
 } lampcoil_status_meaning;
 lampcoil_status_meaning lampcoil_status_read(const uint8_t *status, size_t status_len);
 
-/* ---- AES3: 384 samples, A and B alternating; a side table of 144 octets; a line of 3,072 octets, eight for each subframe,
-   the earliest symbol in the highest bit. ---- */
+/* ---- AES3: 384 samples, A and B alternating; a side table of 144 octets; a line of 3,072 octets, eight for each
+   subframe, the earliest symbol in the highest bit. ---- */
 
 /* Writes the whole line after the given level, 0 or 1.
-   Order: LENGTH (each of the three buffers), RANGE (level), SAMPLE, CONSUMER, CRCC, VALIDITY, each over all its places. */
+   Order: LENGTH (each of the three), RANGE (level), SAMPLE, CONSUMER, CRCC, VALIDITY, each over all its places. */
 lampcoil_verdict lampcoil_aes3_write(const int32_t *samples, size_t samples_len,
                                      const uint8_t *side, size_t side_len,
                                      uint32_t level, uint8_t *line, size_t line_len);
 
-/* Fills all samples and the side table; crcc_a and crcc_b are 1 if byte 23 of that channel's status is right. A wrong CRCC is never
-   refused, and nothing of the status is judged. The level before is taken as the opposite of the first symbol, so that a line and
-   its inversion read the same.
+/* Fills all samples and the side table; crcc_a and crcc_b are 1 if byte 23 of that channel's status is right. A wrong
+   CRCC is never refused, and nothing of the status is judged. The level before is taken as the opposite of the first
+   symbol, so that a line and its inversion read the same.
    Order: LENGTH (each of the three buffers), then subframe by subframe PREAMBLE, SLOT, PARITY. */
 typedef struct { uint32_t number, place, crcc_a, crcc_b; } lampcoil_aes3_read_answer;
 lampcoil_aes3_read_answer lampcoil_aes3_read(const uint8_t *line, size_t line_len,
                                              int32_t *samples, size_t samples_len,
                                              uint8_t *side, size_t side_len);
 
-/* The first place of a line, counted in symbols from its highest bit, at which a block starts: preamble Z, and Y 64 symbols later.
-   Places run from 1, since a preamble is judged by the symbol before it, to 72 before the end.
+/* The first place of a line, counted in symbols from its highest bit, at which a block starts: preamble Z, and Y 64
+   symbols later. Places run from 1, since a preamble is judged by the symbol before it, to 72 before the end. A start
+   is in general not a multiple of eight: the block stands across octets there, and is to be shifted into octets of its
+   own before aes3_read takes it.
    Order: LENGTH (above 8,192 octets), NO_START. */
 typedef struct { uint32_t number, place, position; } lampcoil_aes3_start;
 lampcoil_aes3_start lampcoil_aes3_find(const uint8_t *line, size_t line_len);
 
 /* ---- MADI: a frame of 56 or 64 channels of 40 line bits, then sync symbols of ten. ---- */
 
-/* Writes a frame: words_len active channels, the others inactive, then `syncs` sync symbols. A word is a body, with bits 2 and 3
-   (B subframe, block start) as the caller sets them. Writes the first LAMPCOIL_MADI_OCTETS(channels, syncs) octets of the line,
-   unused bits of the last of them 0; the octets after them are unchanged.
-   Order: RANGE (channels 56 or 64, words_len 1 to channels, syncs 1 to 255, level 0 or 1), LENGTH (line at least the octets
-   needed), PARITY over all words, STATE (bit 0 or 1 set) over all words. */
+/* Writes a frame: words_len active channels, the others inactive, then `syncs` sync symbols. A word is a body, with
+   bits 2 and 3 (B subframe, block start) as the caller sets them. Writes the first LAMPCOIL_MADI_OCTETS(channels,
+   syncs) octets of the line, unused bits of the last of them 0; the octets after them are unchanged.
+   Order: RANGE (channels 56 or 64, words_len 1 to channels, syncs 1 to 255, level 0 or 1), LENGTH (line at least the
+   octets needed), PARITY over all words, STATE (bit 0 or 1 set) over all words. */
 lampcoil_verdict lampcoil_madi_write(uint32_t channels, const uint32_t *words, size_t words_len,
                                      uint32_t syncs, uint32_t level, uint8_t *line, size_t line_len);
 
-/* Reads a frame of `bits` bits; sync symbols may stand at any boundary between channels. Fills all the words, bits 0 and 1
-   cleared, inactive channels 0; returns the number of active channels and of sync symbols.
-   Order: RANGE (channels, level, bits at most 5,110), LENGTH (line exactly the octets of `bits`, words exactly `channels`), RANGE
-   (a spare bit of the last octet set), then unit by unit FRAME, GROUP, STATE, PARITY. */
+/* Reads a frame of `bits` bits; sync symbols may stand at any boundary between channels. Fills all the words, bits 0
+   and 1 cleared, inactive channels 0; returns the number of active channels and of sync symbols.
+   Order: RANGE (channels, level, bits at most 5,110), LENGTH (line exactly the octets of `bits`, words exactly
+   `channels`), RANGE (a spare bit of the last octet set), then unit by unit FRAME, GROUP, STATE, PARITY. */
 typedef struct { uint32_t number, place, active, syncs; } lampcoil_madi_read_answer;
 lampcoil_madi_read_answer lampcoil_madi_read(uint32_t channels, uint32_t level, uint32_t bits,
                                              const uint8_t *line, size_t line_len,
@@ -220,9 +261,10 @@ lampcoil_madi_read_answer lampcoil_madi_read(uint32_t channels, uint32_t level, 
 
 /* ---- HD audio data packet: 31 words of ten bits, four bodies. ---- */
 
-/* Writes a packet of the group 1 to 4, with data block number, clock phase and ck12, and Z of the two pairs.
-   Order: LENGTH (both buffers), RANGE (group, dbn to 255, phase to 4,095, ck12, z1 and z2 to 1), PARITY over all bodies,
-   STATE (a low four bit set) over all bodies. */
+/* Writes a packet of the group 1 to 4, with data block number, clock phase and ck12, and Z of the two pairs. There are
+   always four bodies: a channel that is not active is body 0.
+   Order: LENGTH (both buffers), RANGE (group, dbn to 255, phase to 4,095, ck12, z1 and z2 to 1), PARITY over all
+   bodies, STATE (a low four bit set) over all bodies. */
 lampcoil_verdict lampcoil_hd_write(uint32_t group, uint32_t dbn, uint32_t phase, uint32_t ck12,
                                    uint32_t z1, uint32_t z2, const uint32_t *bodies, size_t bodies_len,
                                    uint16_t *words, size_t words_len);
@@ -234,15 +276,17 @@ typedef struct { uint32_t number, place, group, dbn, phase, ck12, z1, z2; } lamp
 lampcoil_hd_read_answer lampcoil_hd_read(const uint16_t *words, size_t words_len,
                                          uint32_t *bodies, size_t bodies_len);
 
-/* Fills another 31 words with the packet whose lanes are the nearest that satisfy the code, each within one place; b8, b9,
-   the last word and the ADF are built anew. `lanes` is the number of lanes in which the two differ. What comes out can still be
-   refused by the reader, for what no lane tells.
+/* Fills another 31 words with the packet whose lanes are the nearest that satisfy the code, each within one place; b8,
+   b9, the last word and the ADF are built anew. `lanes` is the number of lanes in which the two differ. What comes out
+   can still be refused by the reader, for what no lane tells.
    Order: LENGTH (both buffers), WORD (above 1,023), LANE, HEADER (repaired low octets of words 0 to 2). */
 typedef struct { uint32_t number, place, lanes; } lampcoil_hd_repair_answer;
 lampcoil_hd_repair_answer lampcoil_hd_repair(const uint16_t *words, size_t words_len,
                                              uint16_t *repaired, size_t repaired_len);
 
-/* The satisfying lane within one place of this one; place k has weight 2^k. Order: RANGE (from 2^30 up), LANE (place 0). */
+/* The satisfying lane within one place of this one. A lane is one bit of the low octets of words 0 to 29, word k at
+   weight 2^k: 24 data places first, that of word 0 at weight 1, then six check places, of which the one at weight
+   2^(24+n) is UDW(18+n), the coefficient of x^n. Order: RANGE (from 2^30 up), LANE. */
 typedef struct { uint32_t number, place, lane; } lampcoil_lane;
 lampcoil_lane lampcoil_lane_repair(uint32_t lane);
 

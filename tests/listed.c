@@ -115,13 +115,12 @@ static void test_status(void)
     lampcoil_status_seal(two, 24);
     expect(one[23] == 0x9B, "example 8");
     expect(two[23] == 0x32, "example 9");
-    uint32_t stages = lampcoil_crcc_start().stages, octet = 0;
+    uint32_t stages = lampcoil_crcc_start().stages;
     for (const char *t = "123456789"; *t != '\0'; t++)
         for (int k = 0; k < 8; k++)
             stages = lampcoil_crcc_feed(stages, (uint32_t)bit_of((uint32_t)*t, k)).stages;
-    for (int k = 0; k < 8; k++)
-        octet += weight(k) * (uint32_t)bit_of(stages, 7 - k);
-    expect(octet == 0x97, "check value of CRC-8/AES");
+    expect(lampcoil_crcc_value(stages).value == 0x97, "check value of CRC-8/AES");
+    expect(lampcoil_crcc_value(256).number == 2, "no stages");
     expect(lampcoil_crcc_feed(256, 0).number == 2 && lampcoil_crcc_feed(0, 2).number == 2, "stages and bit out of range");
     lampcoil_status_meaning m = lampcoil_status_read(one, 24);
     expect(m.use == 1 && m.audio == 0 && m.emphasis == 3 && m.lock == 1 && m.rate == 0 && m.mode == 4, "meaning of example 8");

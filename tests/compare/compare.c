@@ -1,4 +1,5 @@
-/* The comparing program's frame: the generator, lent buffers with guards, counts. Usage: compare [CASES], default 20000. */
+/* The comparing program's frame: the generator, lent buffers with guards, counts. Usage: compare [CASES [FAULTS]],
+   default 20000; it ends at once after that many faults, where the number is given. */
 #define _DEFAULT_SOURCE
 #include "compare.h"
 #include <stdio.h>
@@ -22,7 +23,7 @@ static int used;
 typedef struct { const char *name; unsigned long cases, seen[NUMBERS]; } tally;
 static tally tallies[ENTRIES];
 static tally *now;
-static int failures;
+static int failures, enough;
 
 static uint64_t state = 20110301;
 
@@ -52,7 +53,7 @@ uint32_t any_number(uint32_t most)
 
 size_t any_length(size_t right)
 {
-    if (!once_in(24))
+    if (edge_set() || !once_in(24))
         return right;
     switch (below(4)) {
     case 0:
@@ -119,38 +120,51 @@ void begin(const char *entry)
     exit(2);
 }
 
-static lent lend(const void *contents, size_t elements, size_t octets_each, int may_change)
+/* What an entry does with a buffer; WRITES_START: it writes as many elements as it needs from the start, whatever the
+   length. */
+typedef enum { READS, WRITES, WRITES_START } use;
+
+static lent lend(const char *argument, const void *contents, size_t elements, size_t octets_each, use of)
 {
     slot *s = &slots[used++];
     s->octets = elements * octets_each;
     size_t at = once_in(2) ? 0 : ROOM - s->octets;
     s->from = at > ZONE ? at - ZONE : 0;
     s->to = at + s->octets + ZONE < ROOM ? at + s->octets + ZONE : ROOM;
-    s->may_change = may_change;
+    s->may_change = of != READS;
     random_octets(s->before + s->from, s->to - s->from);
     if (contents != NULL)
         memcpy(s->before + at, contents, s->octets);
     for (int k = 0; k < 2; k++)
         memcpy(s->rooms[k] + s->from, s->before + s->from, s->to - s->from);
-    lent l = {s->rooms[0] + at, s->rooms[1] + at, elements};
-    if (elements == 0 && once_in(2))
+    edge e = edge_for(used - 1);
+    edge_lent(now->name, argument, e);
+    lent l = {s->rooms[0] + at, s->rooms[1] + at, e == NO_EDGE ? elements : edge_length(e, elements)};
+    if (e == NULL_EMPTY || (l.elements == 0 && once_in(2)))
         l.library = l.second = NULL;
+    else if (e != NO_EDGE && of != WRITES_START)
+        l.library = l.second = edge_memory();
     return l;
 }
 
-lent lend_in(const void *contents, size_t elements, size_t octets_each)
+lent lend_in(const char *argument, const void *contents, size_t elements, size_t octets_each)
 {
-    return lend(contents, elements, octets_each, 0);
+    return lend(argument, contents, elements, octets_each, READS);
 }
 
-lent lend_out(size_t elements, size_t octets_each)
+lent lend_out(const char *argument, size_t elements, size_t octets_each)
 {
-    return lend(NULL, elements, octets_each, 1);
+    return lend(argument, NULL, elements, octets_each, WRITES);
 }
 
-lent lend_both(const void *contents, size_t elements, size_t octets_each)
+lent lend_both(const char *argument, const void *contents, size_t elements, size_t octets_each)
 {
-    return lend(contents, elements, octets_each, 1);
+    return lend(argument, contents, elements, octets_each, WRITES);
+}
+
+lent lend_start(const char *argument, size_t elements, size_t octets_each)
+{
+    return lend(argument, NULL, elements, octets_each, WRITES_START);
 }
 
 static void fault(const char *what)
@@ -158,6 +172,8 @@ static void fault(const char *what)
     failures = failures + 1;
     if (failures <= SHOWN)
         printf("FAILED: %s, case %lu: %s\n", now->name, now->cases, what);
+    if (failures == enough)
+        exit(1);
 }
 
 void end(const void *library, const void *second, size_t octets, uint32_t number)
@@ -172,6 +188,8 @@ void end(const void *library, const void *second, size_t octets, uint32_t number
         if ((!s->may_change || number != 0) && memcmp(s->rooms[0] + s->from, s->before + s->from, n) != 0)
             fault("a buffer was changed that must stay");
     }
+    if (edge_touched())
+        fault("what stands behind a length of 2^32 or more was touched");
     now->cases = now->cases + 1;
     if (number < NUMBERS)
         now->seen[number] = now->seen[number] + 1;
@@ -204,6 +222,7 @@ static unsigned long print_tallies(void)
 int main(int argc, char **argv)
 {
     uint32_t cases = argc > 1 ? (uint32_t)strtoul(argv[1], NULL, 10) : 20000;
+    enough = argc > 2 ? atoi(argv[2]) : 0;
     for (int k = 0; k < SLOTS; k++) {
         slots[k].rooms[0] = make_room();
         slots[k].rooms[1] = make_room();
@@ -213,6 +232,7 @@ int main(int argc, char **argv)
     compare_madi(cases);
     compare_aes3(cases);
     unsigned long all = print_tallies();
+    failures = failures + edges_missing();
     printf("library and second program: %lu cases, %d differences\n", all, failures);
     return failures != 0;
 }

@@ -58,13 +58,14 @@ static void aes3_write(void)
     size_t n = any_length(384), s = any_length(144), m = any_length(3072);
     uint32_t level = any_number(1);
     begin("aes3_write");
-    lent a_samples = lend_in(samples, n, 4), a_side = lend_in(side, s, 1), a_line = lend_out(m, 1);
-    lampcoil_verdict a = lampcoil_aes3_write(a_samples.library, n, a_side.library, s, level, a_line.library, m);
-    second_verdict b = second_aes3_write(a_samples.second, n, a_side.second, s, level, a_line.second, m);
+    lent p = lend_in("samples", samples, n, 4), q = lend_in("side", side, s, 1), r = lend_out("line", m, 1);
+    lampcoil_verdict a = lampcoil_aes3_write(p.library, p.elements, q.library, q.elements, level, r.library, r.elements);
+    second_verdict b = second_aes3_write(p.second, p.elements, q.second, q.elements, level, r.second, r.elements);
     END(a, b);
 }
 
-/* A line whose status may be anything: written with good statuses, then C bits changed in pairs, so that parity holds. */
+/* A line whose status may be anything: written with good statuses, then C bits changed in pairs, so that parity
+   holds. */
 static void good_line(void)
 {
     good_block();
@@ -115,9 +116,9 @@ static void aes3_read(void)
             line[k] = (uint8_t)(255 - line[k]);
     size_t n = any_length(384), s = any_length(144), m = any_length(3072);
     begin("aes3_read");
-    lent a_line = lend_in(line, m, 1), a_samples = lend_out(n, 4), a_side = lend_out(s, 1);
-    lampcoil_aes3_read_answer a = lampcoil_aes3_read(a_line.library, m, a_samples.library, n, a_side.library, s);
-    second_aes3_read_answer b = second_aes3_read(a_line.second, m, a_samples.second, n, a_side.second, s);
+    lent p = lend_in("line", line, m, 1), q = lend_out("samples", n, 4), r = lend_out("side", s, 1);
+    lampcoil_aes3_read_answer a = lampcoil_aes3_read(p.library, p.elements, q.library, q.elements, r.library, r.elements);
+    second_aes3_read_answer b = second_aes3_read(p.second, p.elements, q.second, q.elements, r.second, r.elements);
     END(a, b);
 }
 
@@ -154,10 +155,15 @@ static void aes3_find(size_t n)
         plant(stretch, n, at + 64, other ? 0x0E2 : 0x0E4, second);
     }
     begin("aes3_find");
-    lent in = lend_in(stretch, n, 1);
-    lampcoil_aes3_start a = lampcoil_aes3_find(in.library, n);
-    second_aes3_start b = second_aes3_find(in.second, n);
+    lent in = lend_in("line", stretch, n, 1);
+    lampcoil_aes3_start a = lampcoil_aes3_find(in.library, in.elements);
+    second_aes3_start b = second_aes3_find(in.second, in.elements);
     END(a, b);
+}
+
+static void aes3_find_in_some(void)
+{
+    aes3_find(9 + below(120));
 }
 
 void compare_aes3(uint32_t cases)
@@ -173,6 +179,9 @@ void compare_aes3(uint32_t cases)
         aes3_find(n);
     for (size_t n = 8189; n < 8196; n++)
         aes3_find(n);
+    at_the_edges(aes3_write);
+    at_the_edges(aes3_read);
+    at_the_edges(aes3_find_in_some);
     must_have_seen("aes3_write", of_write);
     must_have_seen("aes3_read", of_read);
     must_have_seen("aes3_find", of_find);

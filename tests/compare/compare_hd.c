@@ -27,9 +27,9 @@ static void hd_write(void)
         bodies[k] |= below(16);
     }
     begin("hd_write");
-    lent in = lend_in(bodies, n, sizeof bodies[0]), out = lend_out(m, 2);
-    lampcoil_verdict a = lampcoil_hd_write(group, dbn, phase, ck12, z1, z2, in.library, n, out.library, m);
-    second_verdict b = second_hd_write(group, dbn, phase, ck12, z1, z2, in.second, n, out.second, m);
+    lent in = lend_in("bodies", bodies, n, sizeof bodies[0]), out = lend_out("words", m, 2);
+    lampcoil_verdict a = lampcoil_hd_write(group, dbn, phase, ck12, z1, z2, in.library, in.elements, out.library, out.elements);
+    second_verdict b = second_hd_write(group, dbn, phase, ck12, z1, z2, in.second, in.elements, out.second, out.elements);
     END(a, b);
 }
 
@@ -100,17 +100,17 @@ static void hd_read_and_repair(void)
         damage(words);
     size_t n = any_length(31), m = any_length(4);
     begin("hd_read");
-    lent in = lend_in(words, n, 2), out = lend_out(m, 4);
-    lampcoil_hd_read_answer a = lampcoil_hd_read(in.library, n, out.library, m);
-    second_hd_read_answer b = second_hd_read(in.second, n, out.second, m);
+    lent in = lend_in("words", words, n, 2), out = lend_out("bodies", m, 4);
+    lampcoil_hd_read_answer a = lampcoil_hd_read(in.library, in.elements, out.library, out.elements);
+    second_hd_read_answer b = second_hd_read(in.second, in.elements, out.second, out.elements);
     END(a, b);
 
     m = any_length(31);
     begin("hd_repair");
-    in = lend_in(words, n, 2);
-    out = lend_out(m, 2);
-    lampcoil_hd_repair_answer c = lampcoil_hd_repair(in.library, n, out.library, m);
-    second_hd_repair_answer d = second_hd_repair(in.second, n, out.second, m);
+    in = lend_in("words", words, n, 2);
+    out = lend_out("repaired", m, 2);
+    lampcoil_hd_repair_answer c = lampcoil_hd_repair(in.library, in.elements, out.library, out.elements);
+    second_hd_repair_answer d = second_hd_repair(in.second, in.elements, out.second, out.elements);
     END(c, d);
 }
 
@@ -122,6 +122,8 @@ void compare_hd(uint32_t cases)
         hd_write();
         hd_read_and_repair();
     }
+    at_the_edges(hd_write);
+    at_the_edges(hd_read_and_repair);
     must_have_seen("hd_write", of_write);
     must_have_seen("hd_read", of_read);
     must_have_seen("hd_repair", of_repair);

@@ -10,7 +10,8 @@ static uint32_t any_channels(void)
     return once_in(2) ? 56 : 64;
 }
 
-/* A body with any bits 2 and 3. Draws stand in statements of their own, so that the cases are the same whatever the compiler. */
+/* A body with any bits 2 and 3. Draws stand in statements of their own, so that the cases are the same whatever the
+   compiler. */
 static uint32_t marked_body(void)
 {
     uint32_t body = even_body();
@@ -29,7 +30,7 @@ static void madi_write(void)
         syncs = 254 + below(3);
     bits = 40 * (size_t)(channels < 70 ? channels : 64) + 10 * (size_t)(syncs < 300 ? syncs : 1);
     m = (bits + 7) / 8 + (once_in(2) ? 0 : below(40));
-    if (once_in(12))
+    if (!edge_set() && once_in(12)) /* at an edge the start of the line is written, whatever length is told */
         m = below(700);
     for (int k = 0; k < 80; k++)
         words[k] = marked_body();
@@ -41,9 +42,9 @@ static void madi_write(void)
             words[two] |= 1 + below(3);
     }
     begin("madi_write");
-    lent in = lend_in(words, n, 4), out = lend_out(m, 1);
-    lampcoil_verdict a = lampcoil_madi_write(channels, in.library, n, syncs, level, out.library, m);
-    second_verdict b = second_madi_write(channels, in.second, n, syncs, level, out.second, m);
+    lent in = lend_in("words", words, n, 4), out = lend_start("line", m, 1);
+    lampcoil_verdict a = lampcoil_madi_write(channels, in.library, in.elements, syncs, level, out.library, out.elements);
+    second_verdict b = second_madi_write(channels, in.second, in.elements, syncs, level, out.second, out.elements);
     END(a, b);
 }
 
@@ -115,9 +116,9 @@ static void madi_read(void)
         n = below((uint32_t)n + 2);
     m = once_in(24) ? below(66) : channels < 70 ? channels : m;
     begin("madi_read");
-    lent in = lend_in(line, n, 1), out = lend_out(m, 4);
-    lampcoil_madi_read_answer a = lampcoil_madi_read(channels, level, bits, in.library, n, out.library, m);
-    second_madi_read_answer b = second_madi_read(channels, level, bits, in.second, n, out.second, m);
+    lent in = lend_in("line", line, n, 1), out = lend_out("words", m, 4);
+    lampcoil_madi_read_answer a = lampcoil_madi_read(channels, level, bits, in.library, in.elements, out.library, out.elements);
+    second_madi_read_answer b = second_madi_read(channels, level, bits, in.second, in.elements, out.second, out.elements);
     END(a, b);
 }
 
@@ -129,6 +130,8 @@ void compare_madi(uint32_t cases)
         madi_read();
         madi_read();
     }
+    at_the_edges(madi_write);
+    at_the_edges(madi_read);
     must_have_seen("madi_write", of_write);
     must_have_seen("madi_read", of_read);
 }

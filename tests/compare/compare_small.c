@@ -45,23 +45,23 @@ static void status_entries(void)
     draw_status(status);
     size_t n = any_length(24);
     begin("status_seal");
-    lent s = lend_both(status, n, 1);
-    lampcoil_verdict a = lampcoil_status_seal(s.library, n);
-    second_verdict b = second_status_seal(s.second, n);
+    lent s = lend_both("status", status, n, 1);
+    lampcoil_verdict a = lampcoil_status_seal(s.library, s.elements);
+    second_verdict b = second_status_seal(s.second, s.elements);
     END(a, b);
 
     n = any_length(24);
     begin("status_right");
-    s = lend_in(status, n, 1);
-    lampcoil_status_check c = lampcoil_status_right(s.library, n);
-    second_status_check d = second_status_right(s.second, n);
+    s = lend_in("status", status, n, 1);
+    lampcoil_status_check c = lampcoil_status_right(s.library, s.elements);
+    second_status_check d = second_status_right(s.second, s.elements);
     END(c, d);
 
     n = any_length(24);
     begin("status_read");
-    s = lend_in(status, n, 1);
-    lampcoil_status_meaning e = lampcoil_status_read(s.library, n);
-    second_status_meaning f = second_status_read(s.second, n);
+    s = lend_in("status", status, n, 1);
+    lampcoil_status_meaning e = lampcoil_status_read(s.library, s.elements);
+    second_status_meaning f = second_status_read(s.second, s.elements);
     END(e, f);
 }
 
@@ -74,7 +74,7 @@ static void all_states(void)
         status[0] = (uint8_t)(status[0] | 1);
         status[k / 256] = (uint8_t)k;
         begin("status_read");
-        lent s = lend_in(status, 24, 1);
+        lent s = lend_in("status", status, 24, 1);
         lampcoil_status_meaning a = lampcoil_status_read(s.library, 24);
         second_status_meaning b = second_status_read(s.second, 24);
         END(a, b);
@@ -89,17 +89,29 @@ static void crcc_feed(uint32_t stages, uint32_t bit)
     END(a, b);
 }
 
+static void crcc_value(uint32_t stages)
+{
+    begin("crcc_value");
+    lampcoil_crcc_octet a = lampcoil_crcc_value(stages);
+    second_crcc_octet b = second_crcc_value(stages);
+    END(a, b);
+}
+
 static void crcc(void)
 {
     begin("crcc_start");
     lampcoil_crcc a = lampcoil_crcc_start();
     second_crcc b = second_crcc_start();
     END(a, b);
-    for (uint32_t stages = 0; stages < 260; stages++)
+    for (uint32_t stages = 0; stages < 260; stages++) {
         for (uint32_t bit = 0; bit < 4; bit++)
             crcc_feed(stages, bit);
-    for (int k = 0; k < 500; k++)
+        crcc_value(stages);
+    }
+    for (int k = 0; k < 500; k++) {
         crcc_feed(any_number(255), any_number(1));
+        crcc_value(any_number(255));
+    }
 }
 
 /* A lane of the code from any one, by way of a packet's check places; then up to three places changed. */
@@ -144,6 +156,7 @@ void compare_small(uint32_t cases)
             lane_repair();
     }
     all_states();
+    at_the_edges(status_entries);
     crcc();
     for (uint32_t dbn = 0; dbn < 300; dbn++)
         next_dbn(dbn);
@@ -155,6 +168,7 @@ void compare_small(uint32_t cases)
     must_have_seen("status_right", of_status);
     must_have_seen("status_read", of_status);
     must_have_seen("crcc_feed", of_crcc);
+    must_have_seen("crcc_value", of_crcc);
     must_have_seen("lane_repair", of_lane);
     must_have_seen("hd_next_dbn", of_crcc);
 }

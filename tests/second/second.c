@@ -170,3 +170,16 @@ second_crcc second_crcc_feed(uint32_t stages, uint32_t bit)
             r.stages = r.stages + second_weight(k);
     return r;
 }
+
+second_crcc_octet second_crcc_value(uint32_t stages)
+{
+    second_crcc_octet r = {0, 0, 0};
+    if (stages > 255) {
+        r.number = 2;
+        return r;
+    }
+    for (int k = 0; k < 8; k++)
+        if (second_bit(stages, 7 - k) == 1)
+            r.value = r.value + second_weight(k);
+    return r;
+}

@@ -15,6 +15,7 @@ typedef struct { uint32_t number, place; int32_t sample; uint32_t v, u, c; } sec
 
 typedef struct { uint32_t number, place, right; } second_status_check;
 typedef struct { uint32_t number, place, stages; } second_crcc;
+typedef struct { uint32_t number, place, value; } second_crcc_octet;
 
 /* The meaning of status bytes 0 to 2. Each field counts the rows of its table in the order in which the table prints them,
    from 0; a reserved state is SECOND_RESERVED, and its bits are then in the field `.._bits` (else 0), the lowest bit of
@@ -49,6 +50,7 @@ second_status_check second_status_right(const uint8_t *status, size_t status_len
 second_status_meaning second_status_read(const uint8_t *status, size_t status_len);
 second_crcc second_crcc_start(void);
 second_crcc second_crcc_feed(uint32_t stages, uint32_t bit);
+second_crcc_octet second_crcc_value(uint32_t stages);
 
 second_verdict second_aes3_write(const int32_t *samples, size_t samples_len, const uint8_t *side, size_t side_len, uint32_t level,
                                  uint8_t *line, size_t line_len);

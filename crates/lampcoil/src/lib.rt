@@ -5,7 +5,7 @@ ghost use mathlib.Core.Path.{_≡_};
 ghost use lib.ListN.{length};
 ghost use Rattle.answer.specs.Answer.{Answer.accepted, mapped, verdict, after, rewritten};
 ghost use Rattle.subframe.specs.Body.{bodyWritten, bodyRead};
-ghost use Rattle.codes.specs.Crcc.{stagesFed, sealAnswer, sealed};
+ghost use Rattle.codes.specs.Crcc.{stagesFed, stagesSent, sealAnswer, sealed};
 ghost use Rattle.codes.specs.Lane.{repaired};
 ghost use Rattle.block.specs.Block.{samplesOf, sideOf};
 ghost use Rattle.aes3_write.specs.Writer.{writeAnswer};
@@ -207,6 +207,14 @@ pub extern "C" fn lampcoil_crcc_feed(stages: u32, bit: u32) -> ToldNumber
     ensures { λ r. ⌜ r ≡ toldNumber (stagesFed stages bit) ⌝ }
 {
     answers::number(codes::crcc_fed(stages, bit))
+}
+
+// Byte 23 from the CRCC's stages after bits 0 to 183.
+#[no_mangle]
+pub extern "C" fn lampcoil_crcc_value(stages: u32) -> ToldNumber
+    ensures { λ r. ⌜ r ≡ toldNumber (stagesSent stages) ⌝ }
+{
+    answers::number(codes::crcc_value(stages))
 }
 
 // ---- lanes of the BT.1365 code

@@ -1,0 +1,22 @@
+/* The hand-written functions in the place of the library's, for the comparing program (cc -DIN_PLACE='"in_place.h"').
+   Every function that a row of the figures measures stands here; BY_CANDIDATE chooses between the two searches for a
+   block start. */
+#ifndef IN_PLACE_H
+#define IN_PLACE_H
+
+#include "hand.h"
+
+#define lampcoil_aes3_write hand_aes3_write
+#define lampcoil_aes3_read hand_aes3_read
+#ifdef BY_CANDIDATE
+#define lampcoil_aes3_find hand_aes3_find_by_candidate
+#else
+#define lampcoil_aes3_find hand_aes3_find
+#endif
+#define lampcoil_madi_write hand_madi_write
+#define lampcoil_madi_read hand_madi_read
+#define lampcoil_hd_write hand_hd_write
+#define lampcoil_hd_read hand_hd_read
+#define lampcoil_hd_repair hand_hd_repair
+
+#endif
