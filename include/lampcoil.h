@@ -290,7 +290,8 @@ lampcoil_hd_repair_answer lampcoil_hd_repair(const uint16_t *words, size_t words
 typedef struct { uint32_t number, place, lane; } lampcoil_lane;
 lampcoil_lane lampcoil_lane_repair(uint32_t lane);
 
-/* The data block number after this one. RANGE above 255. */
+/* The data block number after this one: a sender that counts runs 1 to 255 and then 1 again. 0 says that it does not
+   count, and the next after 0 is 0. lampcoil_hd_write and lampcoil_hd_read take any of 0 to 255. RANGE above 255. */
 typedef struct { uint32_t number, place, dbn; } lampcoil_dbn;
 lampcoil_dbn lampcoil_hd_next_dbn(uint32_t dbn);
 

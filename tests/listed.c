@@ -175,7 +175,8 @@ static void test_packet(void)
     lampcoil_hd_repair_answer q = lampcoil_hd_repair(w, 31, again, 31);
     w[9] ^= 0xFF;
     expect(q.number == 0 && q.lanes == 8 && memcmp(w, again, sizeof w) == 0, "a word's low octet inverted is repaired");
-    expect(lampcoil_hd_next_dbn(254).dbn == 255 && lampcoil_hd_next_dbn(255).dbn == 0, "next DBN");
+    expect(lampcoil_hd_next_dbn(254).dbn == 255 && lampcoil_hd_next_dbn(255).dbn == 1, "next DBN");
+    expect(lampcoil_hd_next_dbn(0).number == 0 && lampcoil_hd_next_dbn(0).dbn == 0, "a sender that does not count");
     expect(lampcoil_hd_next_dbn(256).number == 2, "no DBN");
 }
 

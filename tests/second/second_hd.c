@@ -71,7 +71,7 @@ second_dbn second_hd_next_dbn(uint32_t dbn)
     if (dbn > 255)
         r.number = 2;
     else
-        r.dbn = dbn == 255 ? 0 : dbn + 1;
+        r.dbn = dbn == 0 ? 0 : dbn % 255 + 1; /* 0 does not count; 1 to 255 go round */
     return r;
 }
 
