@@ -129,6 +129,39 @@ static int body_of(const tenant *t, uint32_t channel, uint32_t frame, uint32_t *
     return REFUSED("body", b);
 }
 
+/* What a card sends of a body by the table that it has loaded: eight slots to an entry, and slots 28 to 31 by the first
+   eight symbols of one; an entry is inverted where the symbol before it is 1. */
+static void by_table(const uint16_t *table, uint32_t body, uint32_t before, uint8_t symbols[7])
+{
+    for (uint32_t k = 0; k < 4; k++) {
+        uint32_t entry = table[body >> (4 + 8 * k) & 0xFFu] ^ (before == 0 ? 0u : 0xFFFFu);
+        symbols[2 * k] = (uint8_t)(entry >> 8);
+        if (k < 3)
+            symbols[2 * k + 1] = (uint8_t)entry;
+        before = entry & 1u;
+    }
+}
+
+/* The card's own symbols of every subframe are those of the line: behind the preamble, which ends with the level before
+   it, 0 here. */
+static int send_by_card(const tenant *t, const memory *m)
+{
+    uint16_t table[LAMPCOIL_BIPHASE_ENTRIES];
+    uint8_t symbols[7];
+    uint32_t body;
+    lampcoil_verdict v = lampcoil_biphase_table(table, LAMPCOIL_BIPHASE_ENTRIES);
+    if (REFUSED("biphase table", v))
+        return 1;
+    for (uint32_t k = 0; k < LAMPCOIL_BLOCK_SAMPLES; k++) {
+        if (body_of(t, k % 2, k / 2, &body))
+            return 1;
+        by_table(table, body, 0, symbols);
+        if (memcmp(m->line + 8 * k + 1, symbols, sizeof symbols) != 0)
+            return differ("biphase table");
+    }
+    return 0;
+}
+
 /* A frame with the two channels first and all others inactive. */
 static int over_madi(const tenant *t, uint32_t frame, memory *m)
 {
@@ -175,7 +208,7 @@ static int over_hd(const tenant *t, uint32_t dbn, memory *m)
 static int carry(const tenant *t, uint32_t dbn, memory *m)
 {
     printf("tenant %s\n", t->name);
-    if (send_block(t, m) || find_block(m))
+    if (send_block(t, m) || send_by_card(t, m) || find_block(m))
         return 1;
     if (memcmp(m->samples, t->samples, sizeof m->samples) != 0 || memcmp(m->side, t->side, sizeof m->side) != 0)
         return differ("aes3");

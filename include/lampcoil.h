@@ -30,9 +30,9 @@ extern "C" {
 #endif
 
 /* The version of this header and of the library beside it. A larger MAJOR may take something away; MINOR adds. */
-#define LAMPCOIL_VERSION "1.1.0"
+#define LAMPCOIL_VERSION "1.2.0"
 #define LAMPCOIL_VERSION_MAJOR 1
-#define LAMPCOIL_VERSION_MINOR 1
+#define LAMPCOIL_VERSION_MINOR 2
 #define LAMPCOIL_VERSION_PATCH 0
 
 /* Numbers that come back, and what their place is; lampcoil_refusal_text tells when each is given. */
@@ -86,6 +86,7 @@ static inline const char *lampcoil_refusal_text(uint32_t number)
 #define LAMPCOIL_BLOCK_SAMPLES 384u
 #define LAMPCOIL_SIDE_OCTETS 144u
 #define LAMPCOIL_BLOCK_OCTETS 3072u
+#define LAMPCOIL_BIPHASE_ENTRIES 256u
 #define LAMPCOIL_FIND_MOST_OCTETS 8192u
 #define LAMPCOIL_MADI_MOST_CHANNELS 64u
 #define LAMPCOIL_MADI_MOST_SYNCS 255u
@@ -222,6 +223,12 @@ lampcoil_status_meaning lampcoil_status_read(const uint8_t *status, size_t statu
 lampcoil_verdict lampcoil_aes3_write(const int32_t *samples, size_t samples_len,
                                      const uint8_t *side, size_t side_len,
                                      uint32_t level, uint8_t *line, size_t line_len);
+
+/* The table of biphase codings by octet, for a card to load: the very one that aes3_write goes by. Entry d has, for the
+   octet d, lowest bit first, the sixteen symbols that follow level 0, the earliest symbol in the highest bit. After
+   level 1 all sixteen are inverted. Its first eight symbols are those of the octet's lowest four bits.
+   LENGTH unless 256 entries. */
+lampcoil_verdict lampcoil_biphase_table(uint16_t *table, size_t table_len);
 
 /* Fills all samples and the side table; crcc_a and crcc_b are 1 if byte 23 of that channel's status is right. A wrong
    CRCC is never refused, and nothing of the status is judged. The level before is taken as the opposite of the first

@@ -26,6 +26,7 @@ static int32_t samples[LAMPCOIL_BLOCK_SAMPLES + 1];
 static uint8_t side[LAMPCOIL_SIDE_OCTETS + 1], line[LAMPCOIL_FIND_MOST_OCTETS + 1];
 static uint32_t words[LAMPCOIL_MADI_MOST_CHANNELS + 1], bodies[LAMPCOIL_PACKET_BODIES + 1];
 static uint16_t packet[LAMPCOIL_PACKET_WORDS + 1], repaired[LAMPCOIL_PACKET_WORDS + 1];
+static uint16_t table[LAMPCOIL_BIPHASE_ENTRIES + 1];
 
 /* Silence, professional and sealed. */
 static void quiet(void)
@@ -64,6 +65,10 @@ static void test_block_lengths(void)
     memset(line, 0, sizeof line);
     GIVES(lampcoil_aes3_find(line, LAMPCOIL_FIND_MOST_OCTETS), LAMPCOIL_REFUSED_NO_START);
     GIVES(lampcoil_aes3_find(line, LAMPCOIL_FIND_MOST_OCTETS + 1), LAMPCOIL_REFUSED_LENGTH);
+    GIVES(lampcoil_biphase_table(table, LAMPCOIL_BIPHASE_ENTRIES), LAMPCOIL_ACCEPTED);
+    GIVES(lampcoil_biphase_table(table, LAMPCOIL_BIPHASE_ENTRIES - 1), LAMPCOIL_REFUSED_LENGTH);
+    GIVES(lampcoil_biphase_table(table, LAMPCOIL_BIPHASE_ENTRIES + 1), LAMPCOIL_REFUSED_LENGTH);
+    EXPECT(table[0] == 0xCCCC && table[1] == 0xB333 && table[128] == 0xCCCD && table[255] == 0xAAAA);
 }
 
 /* What the AES3 writer and reader refuse. */

@@ -1,4 +1,4 @@
-/* Comparing the AES3 writer, reader and the search for a block start. */
+/* Comparing the AES3 writer, reader, the search for a block start, and biphase by octet. */
 #include "compare.h"
 #include "spoil.h"
 #include <string.h>
@@ -62,6 +62,20 @@ static void aes3_write(void)
     lampcoil_verdict a = lampcoil_aes3_write(p.library, p.elements, q.library, q.elements, level, r.library, r.elements);
     second_verdict b = second_aes3_write(p.second, p.elements, q.second, q.elements, level, r.second, r.elements);
     END(a, b);
+}
+
+static void biphase_table_of(size_t n)
+{
+    begin("biphase_table");
+    lent t = lend_out("table", n, 2);
+    lampcoil_verdict a = lampcoil_biphase_table(t.library, t.elements);
+    second_verdict b = second_biphase_table(t.second, t.elements);
+    END(a, b);
+}
+
+static void biphase_table(void)
+{
+    biphase_table_of(256);
 }
 
 /* A line whose status may be anything: written with good statuses, then C bits changed in pairs, so that parity
@@ -169,10 +183,15 @@ static void aes3_find_in_some(void)
 void compare_aes3(uint32_t cases)
 {
     static const int of_write[] = {0, 1, 2, 3, 4, 5, 6, -1}, of_read[] = {0, 1, 7, 8, 9, -1}, of_find[] = {0, 1, 17, -1};
+    static const int of_table[] = {0, 1, -1};
     for (uint32_t k = 0; k < cases; k += 16) {
         aes3_write();
         aes3_read();
     }
+    for (size_t n = 0; n < 520; n++) /* every entry where there are 256 of them, and nothing at any other length */
+        biphase_table_of(n);
+    at_the_edges(biphase_table);
+    must_have_seen("biphase_table", of_table);
     for (uint32_t k = 0; k < cases; k += 4)
         aes3_find(once_in(300) ? 8190 + below(6) : once_in(50) ? 3072 : once_in(4) ? 9 + below(4) : below(120));
     for (size_t n = 0; n < 12; n++)

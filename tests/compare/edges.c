@@ -14,6 +14,7 @@ enum { MEMORY = 65536, MOST_SLICES = 3, TIMES = 8 };
 static const struct { const char *entry, *argument; } slices[] = {
     {"status_seal", "status"},  {"status_right", "status"}, {"status_read", "status"}, {"aes3_write", "samples"},
     {"aes3_write", "side"},     {"aes3_write", "line"},     {"aes3_read", "line"},     {"aes3_read", "samples"},
+    {"biphase_table", "table"},
     {"aes3_read", "side"},      {"aes3_find", "line"},      {"madi_write", "words"},   {"madi_write", "line"},
     {"madi_read", "line"},      {"madi_read", "words"},     {"hd_write", "bodies"},    {"hd_write", "words"},
     {"hd_read", "words"},       {"hd_read", "bodies"},      {"hd_repair", "words"},    {"hd_repair", "repaired"},

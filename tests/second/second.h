@@ -54,6 +54,7 @@ second_crcc_octet second_crcc_value(uint32_t stages);
 
 second_verdict second_aes3_write(const int32_t *samples, size_t samples_len, const uint8_t *side, size_t side_len, uint32_t level,
                                  uint8_t *line, size_t line_len);
+second_verdict second_biphase_table(uint16_t *table, size_t table_len);
 second_aes3_read_answer second_aes3_read(const uint8_t *line, size_t line_len, int32_t *samples, size_t samples_len, uint8_t *side,
                                          size_t side_len);
 second_aes3_start second_aes3_find(const uint8_t *line, size_t line_len);

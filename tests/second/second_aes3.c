@@ -1,7 +1,7 @@
-/* The second program: AES3 blocks on a biphase line, and the search for their start. */
+/* The second program: AES3 blocks on a biphase line, the search for their start, and biphase by octet. */
 #include "second.h"
 
-enum { FRAMES = 192, SUBFRAMES = 384, SIDE = 144, LINE = 3072 };
+enum { FRAMES = 192, SUBFRAMES = 384, SIDE = 144, LINE = 3072, ENTRIES = 256 };
 enum { V_COLUMN = 0, U_COLUMN = 1, C_COLUMN = 2 };
 
 /* The eight symbols of each preamble after level 0. */
@@ -95,6 +95,27 @@ second_verdict second_aes3_write(const int32_t *samples, size_t samples_len, con
         now = write_subframe(line, i, second_body_write(samples[i], v, u, c).body, now);
     }
     return refused(0, 0);
+}
+
+/* For each octet the sixteen symbols that follow level 0, its lowest bit first; the earliest has the highest weight. */
+second_verdict second_biphase_table(uint16_t *table, size_t table_len)
+{
+    second_verdict r = {table_len != ENTRIES, 0};
+    for (uint32_t octet = 0; r.number == 0 && octet < ENTRIES; octet++) {
+        uint32_t symbols = 0;
+        int last = 0;
+        for (int bit = 0; bit <= 7; bit++) {
+            int one = 1 - last;
+            int two = second_bit(octet, bit) == 1 ? 1 - one : one;
+            if (one == 1)
+                symbols = symbols + second_weight(15 - 2 * bit);
+            if (two == 1)
+                symbols = symbols + second_weight(14 - 2 * bit);
+            last = two;
+        }
+        table[octet] = (uint16_t)symbols;
+    }
+    return r;
 }
 
 /* Reads a subframe into *body; the number of the slot rule that broke first, or 0. */

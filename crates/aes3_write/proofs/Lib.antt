@@ -1,4 +1,3 @@
-pub mod EightTable
 pub mod Writing
 pub mod LineWriting
 pub mod BlockWriting

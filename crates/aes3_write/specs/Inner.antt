@@ -3,17 +3,13 @@ use Prim.Native.Nat.{ℕ, zero, suc, _+_, _*_, _^_}
 use mathlib.Core.Bool.{Bool, false}
 use mathlib.Core.List.{List, _++_}
 use lib.ListN.{getD}
-use Rattle.bits.specs.Row.{Row, bit, bits, bigBits, big}
+use Rattle.bits.specs.Row.{Row, bit, bigBits}
 use Rattle.bits.specs.Listed.{listed}
 use Rattle.line.specs.Preamble.{afterLevel}
 use Rattle.line.specs.Biphase.{biphase}
 use Rattle.subframe.specs.Body.{slots, bodyOf}
 use Rattle.block.specs.Side.{validity, user, status, columns, columnLength}
 use Rattle.block.specs.Block.{sideAt}
-
--- the sixteen symbols of the eight bits of each octet, lowest first, after level 0
-unfoldable pub eightTable : List ℕ
-eightTable = listed 0 256 (λ d. big (biphase false (bits 8 d)))
 
 -- the 64 symbols of a body behind the octet m of a preamble, after a level
 unfoldable pub opened : ℕ → Bool → ℕ → Row

@@ -10,14 +10,14 @@ ghost use Rattle.bits.specs.Row.{odd, bits, bigBits, big};
 ghost use Rattle.bits.specs.Pack.{octets};
 ghost use Rattle.answer.specs.Answer.{Answer.accepted, verdict, rewritten};
 ghost use Rattle.answer.specs.Said.{verdictSaid};
-ghost use Rattle.line.specs.Biphase.{biphase};
+ghost use Rattle.line.specs.Biphase.{biphase, biphaseTable};
 ghost use Rattle.subframe.specs.Signed.{inRange, codeOf};
 ghost use Rattle.block.specs.Side.{columnLength, sideLength};
 ghost use Rattle.block.specs.Block.{bodiesOf};
 ghost use Rattle.block.specs.Check.{checked};
 ghost use Rattle.aes3_line.specs.Line.{lineFrom};
 ghost use Rattle.aes3_write.specs.Writer.{blockLine, writeAnswer};
-ghost use Rattle.aes3_write.specs.Inner.{eightTable, opened, bodyWith, flagsFrom, spread, spreadTable, eightFlags};
+ghost use Rattle.aes3_write.specs.Inner.{opened, bodyWith, flagsFrom, spread, spreadTable, eightFlags};
 
 mod tables;
 
@@ -30,7 +30,6 @@ use block::COLUMN;
 use block::SIDE;
 use block::U;
 use block::V;
-use tables::EIGHT;
 use tables::SPREAD;
 
 // Sixteen ones after symbols whose last is 1, else none: a mask, since a branch on a symbol would go wrong every other
@@ -42,9 +41,9 @@ fn sixteen_ones(before: u64) -> u64
 }
 
 // The sixteen symbols of eight slots that hold the lowest bits of d, lowest first, after symbols whose last is the
-// lowest bit of `before`.
+// lowest bit of `before`: an entry of the table, inverted after a 1.
 fn eight(table: &[u16], before: u64, d: u32) -> u64
-    requires { ⌜ now table ≡ eightTable ⌝ }
+    requires { ⌜ now table ≡ biphaseTable ⌝ }
     ensures { λ r. ⌜ (r ≡ big (biphase (odd before) (bits 8 d))) × (r < 65536) ⌝ }
 {
     let at = (d % 256) as usize;
@@ -52,10 +51,10 @@ fn eight(table: &[u16], before: u64, d: u32) -> u64
     s ^ sixteen_ones(before)
 }
 
-// The 64 symbols of a subframe after level 0, the first highest: the octet m of its preamble, and slots 4 to 31 of its
-// body, eight slots at a time; of the last eight only four are there.
+// The 64 symbols of a subframe after level 0, the first highest: the octet m of its preamble, slots 4 to 27 of its body by
+// three entries of the table, and slots 28 to 31 by the first eight symbols of the entry of V, U, C and P.
 fn subframe_word(table: &[u16], m: u64, body: u32) -> u64
-    requires { ⌜ (now table ≡ eightTable) × (m < 256) ⌝ }
+    requires { ⌜ (now table ≡ biphaseTable) × (m < 256) ⌝ }
     ensures { λ r. ⌜ r ≡ big (opened m false body) ⌝ }
 {
     let a = eight(table, 0, body / 0x10);
@@ -82,7 +81,7 @@ fn lay(w: u64, part: &mut [u8])
 
 // A subframe into eight octets.
 fn write_subframe(table: &[u16], m: u64, level: u32, body: u32, part: &mut [u8])
-    requires { ⌜ (now table ≡ eightTable) × (m < 256) × (level < 2) × (length (now part) ≡ 8) ⌝ }
+    requires { ⌜ (now table ≡ biphaseTable) × (m < 256) × (level < 2) × (length (now part) ≡ 8) ⌝ }
     ensures { λ _. ⌜ now (part .exit) ≡ octets 8 (opened m (odd level) body) ⌝ }
 {
     lay(
@@ -93,7 +92,7 @@ fn write_subframe(table: &[u16], m: u64, level: u32, body: u32, part: &mut [u8])
 
 // A frame into sixteen octets: m opens its first subframe, Y its second.
 fn write_frame(table: &[u16], m: u64, level: u32, a: u32, b: u32, part: &mut [u8])
-    requires { ⌜ (now table ≡ eightTable) × (m < 256) × (level < 2) × (length (now part) ≡ 16) ⌝ }
+    requires { ⌜ (now table ≡ biphaseTable) × (m < 256) × (level < 2) × (length (now part) ≡ 16) ⌝ }
     ensures { λ _. ⌜ now (part .exit) ≡ octets 8 (opened m (odd level) a) ++ octets 8 (opened 0b11100100 (odd level) b) ⌝ }
 {
     write_subframe(table, m, level, a, &mut part[0..8]);
@@ -162,7 +161,7 @@ fn write_sixteen(
     level: u32,
     part: &mut [u8],
 )
-    requires { ⌜ (now table ≡ eightTable) × (now spreads ≡ spreadTable) × (checked (now samples) (now side) ≡ accepted tt) × (length (now samples) ≡ 384) × (length (now side) ≡ sideLength) × (j < columnLength) × (level < 2) × (length (now part) ≡ 128) ⌝ }
+    requires { ⌜ (now table ≡ biphaseTable) × (now spreads ≡ spreadTable) × (checked (now samples) (now side) ≡ accepted tt) × (length (now samples) ≡ 384) × (length (now side) ≡ sideLength) × (j < columnLength) × (level < 2) × (length (now part) ≡ 128) ⌝ }
     ensures { λ _. ⌜ now (part .exit) ++ lineFrom (16 * j + 16) (odd level) (drop (16 * j + 16) (bodiesOf (now (samples .entry)) (now (side .entry)))) ≡ lineFrom (16 * j) (odd level) (drop (16 * j) (bodiesOf (now (samples .entry)) (now (side .entry)))) ⌝ }
 {
     let mut left = sixteen(spreads, side, j);
@@ -190,7 +189,7 @@ fn write_line(
     level: u32,
     line: &mut [u8],
 )
-    requires { ⌜ (now table ≡ eightTable) × (now spreads ≡ spreadTable) × (checked (now samples) (now side) ≡ accepted tt) × (length (now samples) ≡ 384) × (length (now side) ≡ sideLength) × (level < 2) × (length (now line) ≡ 3072) ⌝ }
+    requires { ⌜ (now table ≡ biphaseTable) × (now spreads ≡ spreadTable) × (checked (now samples) (now side) ≡ accepted tt) × (length (now samples) ≡ 384) × (length (now side) ≡ sideLength) × (level < 2) × (length (now line) ≡ 3072) ⌝ }
     ensures { λ _. ⌜ now (line .exit) ≡ blockLine (now (samples .entry)) (now (side .entry)) level ⌝ }
 {
     let mut j: usize = 0;
@@ -207,7 +206,7 @@ fn write_sound(samples: &[i32], side: &[u8], level: u32, line: &mut [u8])
     requires { ⌜ (checked (now samples) (now side) ≡ accepted tt) × (length (now samples) ≡ 384) × (length (now side) ≡ sideLength) × (level < 2) × (length (now line) ≡ 3072) ⌝ }
     ensures { λ _. ⌜ now (line .exit) ≡ blockLine (now (samples .entry)) (now (side .entry)) level ⌝ }
 {
-    let table = EIGHT;
+    let table = line::biphase_codings();
     let spreads = SPREAD;
     write_line(&table, &spreads, samples, side, level, line);
 }

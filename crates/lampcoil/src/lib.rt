@@ -7,6 +7,7 @@ ghost use Rattle.answer.specs.Answer.{Answer.accepted, mapped, verdict, after, 
 ghost use Rattle.subframe.specs.Body.{bodyWritten, bodyRead};
 ghost use Rattle.codes.specs.Crcc.{stagesFed, stagesSent, sealAnswer, sealed};
 ghost use Rattle.codes.specs.Lane.{repaired};
+ghost use Rattle.line.specs.Biphase.{tableLaid};
 ghost use Rattle.block.specs.Block.{samplesOf, sideOf};
 ghost use Rattle.aes3_write.specs.Writer.{writeAnswer};
 ghost use Rattle.aes3_read.specs.Reader.{readAnswer, crccs};
@@ -241,6 +242,15 @@ pub extern "C" fn lampcoil_aes3_write(
     ensures { λ _. ⌜ now (line .exit) ≡ rewritten (writeAnswer (now (samples .entry)) (now (side .entry)) level (length (now (line .entry)))) (now (line .entry)) ⌝ }
 {
     answers::verdict(aes3_write::write_block(samples, side, level, line))
+}
+
+// The table of biphase codings by octet, which the writer goes by and a card loads.
+#[no_mangle]
+pub extern "C" fn lampcoil_biphase_table(table: &mut [u16]) -> Told
+    ensures { λ r. ⌜ r ≡ toldVerdict (verdict (tableLaid (length (now (table .entry))))) ⌝ }
+    ensures { λ _. ⌜ now (table .exit) ≡ rewritten (tableLaid (length (now (table .entry)))) (now (table .entry)) ⌝ }
+{
+    answers::verdict(line::lay_biphase_table(table))
 }
 
 // The samples and the side table of a block, and whether the CRCC of each channel is right.

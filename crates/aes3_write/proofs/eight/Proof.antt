@@ -1,10 +1,15 @@
--- `aes3_write::eight` meets its contract: the table's rule, and its inversion after level 1. Assumes nothing.
+-- `aes3_write::eight` meets its contract: an entry of the table after a level. Assumes nothing.
 use borrow.Author.Needs.{needs}
-use mathlib.Core.Path.{_≡_}
+use mathlib.Core.Path.{_≡_, ap, ap₂, _∙_}
+use mathlib.Core.List.{List}
+use Prim.Native.Nat.{ℕ, _%_, _<_}
 use native.Mathlib.Omega.{arith}
-use lib.ListN.{length}
-use Rattle.bits.specs.Row.{odd}
-use Rattle.aes3_write.proofs.EightTable.{length-eights, eights-lt, eight-lt, eight-turned}
+use lib.Bits.{bitXor}
+use lib.ListN.{length, getD}
+use Rattle.bits.specs.Row.{Row, odd, bits, big}
+use Rattle.bits.proofs.Rows.{bits-mod}
+use Rattle.line.specs.Biphase.{biphase}
+use Rattle.line.proofs.BiphaseByOctet.{length-table, entry-lt, sixteen-lt, entry-after}
 use Rattle.aes3_write.proofs.eight.Statement.{statement}
 use Rattle.aes3_write.proofs.eight.Tie as tie
 
@@ -16,13 +21,15 @@ mul-s c = search needs
 
 shared-slice-read-s : tie.Need-shared-slice-read-s
 shared-slice-read-s c =
-    let n : length (c .before .before .args .table .now) ≡ 256 = rw (c .before .before .pre) length-eights in
+    let n : length (c .before .before .args .table .now) ≡ 256 = rw (c .before .before .pre) length-table in
     omega arith
 
 cast-s : tie.Need-cast-s
 cast-s c =
-    let a = c .before .before .args in
-    omega (arith, eights-lt (a .table .now) (c .before .before .pre) (a .before) (a .d))
+    let start = c .before .before in
+    let d = start .args .d in
+    let h : getD (start .args .table .now) (d % 256) 0 < 65536 = rw (start .pre) (entry-lt (d % 256) (omega arith)) in
+    omega arith
 
 sixteen-ones-requires : tie.Need-sixteen-ones-requires
 sixteen-ones-requires c κs = search needs
@@ -31,8 +38,11 @@ returns : tie.Need-returns
 returns c =
     let start = c .before .before .before in
     let a = start .args in
-    let e = eight-turned (a .table .now) (start .pre) (a .before) (a .d) (c .sixteen-ones .result) (c .sixteen-ones .ensures) in
-    (e, rw e (eight-lt (odd (a .before)) (a .d)))
+    let l = odd (a .before) in
+    let e : bitXor (getD (a .table .now) (a .d % 256) 0) (c .sixteen-ones .result) ≡ big (biphase l (bits 8 (a .d))) =
+    ap₂ (λ (t : List ℕ) (ones : ℕ). bitXor (getD t (a .d % 256) 0) ones) (start .pre) (c .sixteen-ones .ensures)
+    ∙ entry-after l (a .d % 256) (omega arith) ∙ ap (λ (r : Row). big (biphase l r)) (bits-mod 8 (a .d)) in
+    (e, rw e (sixteen-lt l (a .d)))
 
 pub eight-spec : {M : Type 1} → statement M
 eight-spec =

@@ -1,9 +1,11 @@
 -- `aes3_write::write_sound` meets its contract: the tables are as they should be. Assumes nothing.
 use borrow.Author.Needs.{needs}
-use Rattle.aes3_write.proofs.EightTable.{table-right}
 use Rattle.aes3_write.proofs.Flags.{spreads, spreads-right}
 use Rattle.aes3_write.proofs.write_sound.Statement.{statement}
 use Rattle.aes3_write.proofs.write_sound.Tie as tie
+
+biphase-codings-requires : tie.Need-biphase-codings-requires
+biphase-codings-requires c κs = search needs
 
 slice-aggregate-write-line : tie.Need-slice-aggregate-write-line
 slice-aggregate-write-line c = search needs
@@ -14,8 +16,9 @@ slice-aggregate-write-line-2 c = search needs
 write-line-requires : tie.Need-write-line-requires
 unfolding spreads
 write-line-requires c κs =
-    let start = c .before .before .before .before .before in
-    (table-right, spreads-right, start .pre .0, start .pre .1, start .pre .2, start .pre .3, start .pre .4)
+    let made = c .before .before .before in
+    let start = made .before .before .before in
+    (made .biphase-codings .ensures, spreads-right, start .pre .0, start .pre .1, start .pre .2, start .pre .3, start .pre .4)
 
 same-length : tie.Need-same-length
 same-length c = search needs
@@ -27,6 +30,7 @@ pub write-sound-spec : {M : Type 1} → statement M
 write-sound-spec =
     tie.close
     (tie.spec
+    biphase-codings-requires
     slice-aggregate-write-line
     slice-aggregate-write-line-2
     write-line-requires
