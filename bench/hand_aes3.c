@@ -168,17 +168,6 @@ lampcoil_aes3_read_answer hand_aes3_read(const uint8_t *line, size_t line_len, i
     return r;
 }
 
-/* Where the changes of Z, and of Y, begin among the 64 symbols of a word, given the changes of that word and of the
-   next. */
-static inline void match(uint64_t now, uint64_t next, uint64_t *z, uint64_t *y)
-{
-    uint64_t s1 = now << 1 | next >> 63, s2 = now << 2 | next >> 62, s3 = now << 3 | next >> 61, s4 = now << 4 | next >> 60;
-    uint64_t s5 = now << 5 | next >> 59, s6 = now << 6 | next >> 58, s7 = now << 7 | next >> 57;
-    uint64_t both = now & s3 & s5 & ~(s1 | s2 | s7);
-    *z = both & s4 & ~s6;
-    *y = both & s6 & ~s4;
-}
-
 /* The word of 64 symbols that begins at an octet; beyond the end, 0. */
 static uint64_t word_at(const uint8_t *line, size_t len, size_t at)
 {
@@ -190,33 +179,66 @@ static uint64_t word_at(const uint8_t *line, size_t len, size_t at)
     return x;
 }
 
+/* The changes of level at 64 symbols, given their word and the one before it. */
+static inline uint64_t changes(uint64_t word, uint64_t before)
+{
+    return word ^ (word >> 1 | before << 63);
+}
+
+/* The number of ones in each octet of a word. */
+static inline uint64_t ones_by_octet(uint64_t x)
+{
+    x -= x >> 1 & 0x5555555555555555;
+    x = (x & 0x3333333333333333) + (x >> 2 & 0x3333333333333333);
+    return (x + (x >> 4)) & 0x0F0F0F0F0F0F0F0F;
+}
+
+/* Of 64 candidates those that fit, given the changes at them, at the word after them and at the one after that. Symbol
+   k is compared at those whose first k symbols were the ones required; the symbols compared are added up by octets. */
+static inline uint64_t fitting(uint64_t candidates, const uint64_t change[3], uint32_t *compared)
+{
+    /* the changes that make Z, then those that make Y, the first highest */
+    const uint32_t due = 0x9C96;
+    uint64_t sum = 0;
+    for (uint32_t k = 0; k < 16 && candidates != 0; k++) {
+        const uint64_t *now = change + k / 8;
+        uint64_t step = k % 8 == 0 ? now[0] : now[0] << k % 8 | now[1] >> (64 - k % 8);
+        sum += ones_by_octet(candidates);
+        candidates &= due >> (15 - k) & 1 ? step : ~step;
+    }
+    sum = (sum & 0x00FF00FF00FF00FF) + (sum >> 8 & 0x00FF00FF00FF00FF);
+    *compared += (uint32_t)(sum * 0x0001000100010001 >> 48);
+    return candidates;
+}
+
 lampcoil_aes3_start hand_aes3_find(const uint8_t *line, size_t line_len)
 {
-    lampcoil_aes3_start r = {0, 0, 0};
+    lampcoil_aes3_start r = {0, 0, 0, 0};
     if (line_len > 8192) {
         r.number = 1;
         return r;
     }
-    uint64_t last = word_at(line, line_len, 0), held = 0, z, y, before = 0;
-    uint64_t change = last ^ last >> 1;
-    /* word by word; Y stands one word after its Z. Symbol 0 is no candidate: it has no symbol before it. */
-    for (size_t at = 0; at < line_len; at += 8) {
-        uint64_t word = word_at(line, line_len, at + 8);
-        uint64_t next = word ^ (word >> 1 | last << 63);
-        match(change, next, &z, &y);
-        if (at == 0)
-            z &= UINT64_MAX >> 1;
-        uint64_t found = held & y;
+    uint64_t last = word_at(line, line_len, 8), word = word_at(line, line_len, 0);
+    uint64_t change[3] = {word ^ word >> 1, changes(last, word), 0};
+    /* 64 candidates at a time; symbol 0 is none: it has no symbol before it. Y stands one word after its Z. */
+    for (size_t at = 0; at + 9 <= line_len; at += 8) {
+        size_t left = 8 * (line_len - at) - 71;
+        uint64_t candidates = at == 0 ? UINT64_MAX >> 1 : UINT64_MAX;
+        uint32_t before = r.compared;
+        if (left < 64)
+            candidates &= ~(UINT64_MAX >> left);
+        word = word_at(line, line_len, at + 16);
+        change[2] = changes(word, last);
+        uint64_t found = fitting(candidates, change, &r.compared);
         if (found != 0) {
-            size_t p = before + (size_t)__builtin_clzll(found);
-            if (p + 72 > 8 * line_len)
-                break;
-            r.position = (uint32_t)p;
+            uint32_t first = (uint32_t)__builtin_clzll(found);
+            r.compared = before;
+            fitting(candidates & ~(UINT64_MAX >> first >> 1), change, &r.compared);
+            r.position = (uint32_t)(8 * at) + first;
             return r;
         }
-        held = z;
-        before = 8 * at;
-        change = next;
+        change[0] = change[1];
+        change[1] = change[2];
         last = word;
     }
     r.number = 17;
@@ -228,7 +250,7 @@ lampcoil_aes3_start hand_aes3_find_by_candidate(const uint8_t *line, size_t line
 {
     /* the 16 places after a candidate and what must stand there, after level 0 */
     static const uint8_t due[16] = {1, 1, 1, 0, 1, 0, 0, 0, 1, 1, 1, 0, 0, 1, 0, 0};
-    lampcoil_aes3_start r = {0, 0, 0};
+    lampcoil_aes3_start r = {0, 0, 0, 0};
     if (line_len > 8192) {
         r.number = 1;
         return r;
@@ -238,6 +260,7 @@ lampcoil_aes3_start hand_aes3_find_by_candidate(const uint8_t *line, size_t line
         size_t k = 0;
         for (; k < 16; k++) {
             size_t start = k < 8 ? p : p + 64, at = start + k % 8, last = start - 1;
+            r.compared++;
             if (((line[at / 8] >> (7 - at % 8) ^ line[last / 8] >> (7 - last % 8)) & 1) != due[k])
                 break;
         }

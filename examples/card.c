@@ -114,7 +114,7 @@ static int find_block(memory *m)
     if (REFUSED("aes3 find", s))
         return 1;
     align(taken, s.position, block);
-    printf("  aes3: the block starts at symbol %u\n", s.position);
+    printf("  aes3: the block starts at symbol %u, %u symbols compared\n", s.position, s.compared);
     return receive_block(block, m);
 }
 

@@ -7,7 +7,7 @@
    - It takes any value of its arguments, ends, and needs no check by its caller beforehand.
    - Its answer begins with `number` and `place`. Number 0 is acceptance; place is then 0, and the fields after it are
      the values named. Any other number is a refusal, LAMPCOIL_REFUSED_.. below (at the entries its last word alone is
-     given); the fields after `place` are then 0.
+     given); the fields after `place` are then 0, but for the count that aes3_find gives.
    - Of several refusals that apply, the first in the order given at the entry comes back; of several places the
      smallest. Counts and places start at 0; where no place is named it is 0.
    - A refusal changes no buffer. An acceptance sets every element of the stretch that the entry writes, whatever stood
@@ -30,9 +30,9 @@ extern "C" {
 #endif
 
 /* The version of this header and of the library beside it. A larger MAJOR may take something away; MINOR adds. */
-#define LAMPCOIL_VERSION "1.2.0"
-#define LAMPCOIL_VERSION_MAJOR 1
-#define LAMPCOIL_VERSION_MINOR 2
+#define LAMPCOIL_VERSION "2.0.0"
+#define LAMPCOIL_VERSION_MAJOR 2
+#define LAMPCOIL_VERSION_MINOR 0
 #define LAMPCOIL_VERSION_PATCH 0
 
 /* Numbers that come back, and what their place is; lampcoil_refusal_text tells when each is given. */
@@ -243,8 +243,12 @@ lampcoil_aes3_read_answer lampcoil_aes3_read(const uint8_t *line, size_t line_le
    symbols later. Places run from 1, since a preamble is judged by the symbol before it, to 72 before the end. A start
    is in general not a multiple of eight: the block stands across octets there, and is to be shifted into octets of its
    own before aes3_read takes it.
+   `compared` is the number of symbols that the search compares, and stands beside NO_START too: a place costs its
+   sixteen required symbols up to and including the first that differs, or 16 if it fits, and `compared` is the sum over
+   the places from 1 to the answer, or over all. It is at most 16 times the number of places, and 0 with LENGTH and in
+   72 symbols or fewer.
    Order: LENGTH (above 8,192 octets), NO_START. */
-typedef struct { uint32_t number, place, position; } lampcoil_aes3_start;
+typedef struct { uint32_t number, place, position, compared; } lampcoil_aes3_start;
 lampcoil_aes3_start lampcoil_aes3_find(const uint8_t *line, size_t line_len);
 
 /* ---- MADI: a frame of 56 or 64 channels of 40 line bits, then sync symbols of ten. ---- */

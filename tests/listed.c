@@ -1,5 +1,6 @@
-/* What is written down with its answer: the eleven examples of the scope document, the published vectors, and its list "By test".
-   Run over the library, and over the second program under the library's names. */
+/* What is written down with its answer: the eleven examples of the scope document, the published vectors, its list "By
+   test", and the counts that document 02 gives. Run over the library, and over the second program under the library's
+   names. */
 #include "lampcoil.h"
 #include <stdio.h>
 #include <string.h>
@@ -224,6 +225,27 @@ static void test_madi_counts(void)
     expect(r.number == 12 && r.place == 0, "0 active channels read");
 }
 
+/* The number of symbols that the search compares. */
+static void test_compared(void)
+{
+    static int32_t samples[384];
+    static uint8_t side[144], line[8193];
+    lampcoil_aes3_start s = lampcoil_aes3_find(line, 8193);
+    expect(s.number == 1 && s.position == 0 && s.compared == 0, "refusal 1 carries 0");
+    s = lampcoil_aes3_find(line, 9);
+    expect(s.number == 17 && s.position == 0 && s.compared == 0, "72 symbols have no candidate");
+    s = lampcoil_aes3_find(line, 10);
+    expect(s.number == 17 && s.position == 0 && s.compared == 8, "eight candidates, each left at its first symbol");
+    /* behind an octet of zeros: seven candidates are left at their first symbol, the eighth fits */
+    quiet_block(samples, side);
+    lampcoil_aes3_write(samples, 384, side, 144, 0, line + 1, 3072);
+    s = lampcoil_aes3_find(line, 3073);
+    expect(s.number == 0 && s.position == 8 && s.compared == 7 + 16, "a candidate that fits costs 16");
+    line[9] ^= 0x80; /* the first symbol of Y */
+    s = lampcoil_aes3_find(line, 10);
+    expect(s.number == 17 && s.position == 0 && s.compared == 7 + 9, "one whose first symbol of Y differs costs 9");
+}
+
 int main(void)
 {
     test_bodies();
@@ -234,6 +256,7 @@ int main(void)
     test_packet();
     test_madi();
     test_madi_counts();
+    test_compared();
     printf("listed: %d passed, %d failed\n", passed, failed);
     return failed != 0;
 }

@@ -146,9 +146,10 @@ static void plant(uint8_t *octets, size_t n, uint32_t at, uint32_t pattern, int 
     }
 }
 
-static void aes3_find(size_t n)
+static uint8_t stretch[8400];
+
+static void fill_stretch(void)
 {
-    static uint8_t stretch[8400];
     switch (below(3)) {
     case 0:
         random_octets(stretch, sizeof stretch);
@@ -160,6 +161,21 @@ static void aes3_find(size_t n)
         memset(stretch, 0xE8, sizeof stretch);
         break;
     }
+}
+
+/* Answer, and the number of symbols compared. */
+static void find_in(size_t n)
+{
+    begin("aes3_find");
+    lent in = lend_in("line", stretch, n, 1);
+    lampcoil_aes3_start a = lampcoil_aes3_find(in.library, in.elements);
+    second_aes3_start b = second_aes3_find(in.second, in.elements);
+    END(a, b);
+}
+
+static void aes3_find(size_t n)
+{
+    fill_stretch();
     for (uint32_t k = n < 10 ? 0 : below(3); k > 0; k--) {
         uint32_t at = below(8 * (uint32_t)n - 72);
         if (once_in(4)) /* the end cuts the second preamble */
@@ -168,11 +184,36 @@ static void aes3_find(size_t n)
         plant(stretch, n, at, 0x0E8, first);
         plant(stretch, n, at + 64, other ? 0x0E2 : 0x0E4, second);
     }
-    begin("aes3_find");
-    lent in = lend_in("line", stretch, n, 1);
-    lampcoil_aes3_start a = lampcoil_aes3_find(in.library, in.elements);
-    second_aes3_start b = second_aes3_find(in.second, in.elements);
-    END(a, b);
+    find_in(n);
+}
+
+/* A start at every candidate of a short line, the last among them; and with each of its sixteen symbols turned over. */
+static void every_candidate(size_t n)
+{
+    for (uint32_t p = 1; p + 72 <= 8 * n; p++)
+        for (uint32_t k = 0; k <= 16; k++) {
+            fill_stretch();
+            plant(stretch, n, p - 1, 0x0E8, once_in(2));
+            plant(stretch, n, p + 63, 0x0E4, once_in(2));
+            if (k < 16)
+                spoil_flip(stretch, k < 8 ? p + k : p + 56 + k);
+            find_in(n);
+        }
+}
+
+/* A start at the last candidate, and before it a Z with no Y behind it, or with X. */
+static void false_z(size_t n)
+{
+    uint32_t last = 8 * (uint32_t)n - 72;
+    for (uint32_t p = 1; p < last; p++) {
+        memset(stretch, 0, sizeof stretch);
+        plant(stretch, n, p - 1, 0x0E8, once_in(2));
+        if (once_in(2))
+            plant(stretch, n, p + 63, 0x0E2, once_in(2));
+        plant(stretch, n, last - 1, 0x0E8, once_in(2));
+        plant(stretch, n, last + 63, 0x0E4, once_in(2));
+        find_in(n);
+    }
 }
 
 static void aes3_find_in_some(void)
@@ -195,7 +236,12 @@ void compare_aes3(uint32_t cases)
     for (uint32_t k = 0; k < cases; k += 4)
         aes3_find(once_in(300) ? 8190 + below(6) : once_in(50) ? 3072 : once_in(4) ? 9 + below(4) : below(120));
     for (size_t n = 0; n < 12; n++)
-        aes3_find(n);
+        for (int k = 0; k < 12; k++)
+            aes3_find(n);
+    for (size_t n = 9; n < 19; n++)
+        every_candidate(n);
+    for (size_t n = 10; n < 30; n += 3)
+        false_z(n);
     for (size_t n = 8189; n < 8196; n++)
         aes3_find(n);
     at_the_edges(aes3_write);

@@ -35,7 +35,7 @@ typedef struct {
 } second_status_meaning;
 
 typedef struct { uint32_t number, place, crcc_a, crcc_b; } second_aes3_read_answer;
-typedef struct { uint32_t number, place, position; } second_aes3_start;
+typedef struct { uint32_t number, place, position, compared; } second_aes3_start;
 typedef struct { uint32_t number, place, active, syncs; } second_madi_read_answer;
 typedef struct { uint32_t number, place, group, dbn, phase, ck12, z1, z2; } second_hd_read_answer;
 typedef struct { uint32_t number, place, lanes; } second_hd_repair_answer;

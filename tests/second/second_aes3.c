@@ -183,9 +183,35 @@ static int preamble_stands(const uint8_t *line, long p, const int *preamble)
     return 1;
 }
 
+/* The cost of a candidate: its 16 required symbols, in line order, up to and including the first that differs, or all
+   16. */
+static uint32_t cost(const uint8_t *line, long p)
+{
+    int required[16], standing[16];
+    for (int k = 0; k < 8; k++) {
+        required[k] = after(second_symbol(line, p - 1), preamble_z[k]);
+        required[8 + k] = after(second_symbol(line, p + 63), preamble_y[k]);
+        standing[k] = second_symbol(line, p + k);
+        standing[8 + k] = second_symbol(line, p + 64 + k);
+    }
+    for (uint32_t k = 0; k < 16; k++)
+        if (standing[k] != required[k])
+            return k + 1;
+    return 16;
+}
+
+/* The sum of the costs of the candidates from 1 to the last. */
+static uint32_t costs(const uint8_t *line, long last)
+{
+    uint32_t sum = 0;
+    for (long q = 1; q <= last; q++)
+        sum += cost(line, q);
+    return sum;
+}
+
 second_aes3_start second_aes3_find(const uint8_t *line, size_t line_len)
 {
-    second_aes3_start r = {0, 0, 0};
+    second_aes3_start r = {0, 0, 0, 0};
     if (line_len > 8192) {
         r.number = 1;
         return r;
@@ -194,8 +220,10 @@ second_aes3_start second_aes3_find(const uint8_t *line, size_t line_len)
     for (long p = 1; p <= symbols - 72; p++)
         if (preamble_stands(line, p, preamble_z) && preamble_stands(line, p + 64, preamble_y)) {
             r.position = (uint32_t)p;
+            r.compared = costs(line, p);
             return r;
         }
     r.number = 17;
+    r.compared = costs(line, symbols - 72);
     return r;
 }

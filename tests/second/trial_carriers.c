@@ -145,7 +145,7 @@ static void damaged(void)
 static void find(const uint8_t *from, size_t n)
 {
     second_aes3_start a = second_aes3_find(from, n);
-    printf("find %u %u %u\n", a.number, a.place, a.position);
+    printf("find %u %u %u %u\n", a.number, a.place, a.position, a.compared);
 }
 
 /* A start behind an octet, and each symbol changed. */

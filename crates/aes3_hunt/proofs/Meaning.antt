@@ -13,7 +13,7 @@ use Rattle.bits.specs.Pack.{symbols}
 use Rattle.bits.proofs.Tests.{both-true, no-yes, order}
 use Rattle.line.specs.Preamble.{preambleY, preambleZ, afterLevel}
 use Rattle.answer.specs.Answer.{Answer, Answer.accepted, Answer.refused}
-use Rattle.answer.specs.Demand.{provided, _&_}
+use Rattle.answer.specs.Demand.{_&_}
 use Rattle.answer.specs.Demand.Stops.{fails}
 use Rattle.answer.proofs.Chains.{not-both, search-cases, passing, stopped}
 use Rattle.aes3_hunt.specs.Hunt.{opens, fits, huntDemands, hunted, Start, Right}
@@ -46,25 +46,26 @@ not-passed : (line : List ℕ) (n : ℕ) → ((p : ℕ) → 1 ≤ p → p < n �
 not-passed line n before q s =
     ⊎-elim (λ (h : n ≤ q). h) (λ (h : q < n). no-yes (fits (symbols line) q) (before q (s .from) h) (start-fits line q s)) (order n q)
 
--- what the search gives in a line that is not too long
-abbrev searched : List ℕ → Answer ℕ
-searched line = first (fits (symbols line)) 1 (length line * 8 - 72) (λ p. accepted p) (refused 17 0)
+-- the answer: refused by its length, or the first candidate that fits
+pub too-long : (line : List ℕ) → 8192 < length line → hunted line ≡ refused 1 0
+unfolding hunted
+too-long line h = stopped _ (fails (lt-leb (length line) 8192 h))
+
+pub long-enough : (line : List ℕ) → length line ≤ 8192
+    → hunted line ≡ first (fits (symbols line)) 1 (length line * 8 - 72) (λ p. accepted p) (refused 17 0)
+unfolding hunted
+long-enough line h = passing _ (huntDemands line) (le-leb (length line) 8192 h & tt)
 
 pub answer-right : (line : List ℕ) → Right line (hunted line)
-unfolding hunted
-answer-right line = ⊎-elim (λ (h : length line ≤ 8192). short h) (λ (g : 8192 < length line). long g) (order (length line) 8192)
+answer-right line = ⊎-elim searched (λ h. rw (too-long line h) (tooLong h)) (order (length line) 8192)
   where
-    short : length line ≤ 8192 → Right line (provided (huntDemands line) (searched line))
-    short h =
-        rw (passing (searched line) (huntDemands line) (le-leb (length line) 8192 h & tt))
-        (search-cases (fits (symbols line)) (λ p. accepted p) (refused 17 0) 1 (length line * 8 - 72) (Right line)
+    searched : length line ≤ 8192 → Right line (hunted line)
+    searched h =
+        let n = length line * 8 - 72 in
+        rw (long-enough line h)
+        (search-cases (fits (symbols line)) (λ p. accepted p) (refused 17 0) 1 n (Right line)
         (λ p l m f before. smallest h (fits-start line p l (omega arith) f) (not-passed line p before))
-        (λ before. none h (λ q s. absurd (omega (arith, not-passed line (1 + (length line * 8 - 72)) before q s, s .to)))))
-
-    long : 8192 < length line → Right line (provided (huntDemands line) (searched line))
-    long g =
-        let e : provided (huntDemands line) (searched line) ≡ refused 1 0 = stopped (searched line) (fails (lt-leb (length line) 8192 g)) in
-        rw e (tooLong g)
+        (λ before. none h (λ q s. absurd (omega (arith, not-passed line (1 + n) before q s, s .to)))))
 
 one-right : (line : List ℕ) {a b : Answer ℕ} → Right line a → Right line b → a ≡ b
 one-right line (smallest {p} l s least) (smallest {p = q} l′ s′ least′) =

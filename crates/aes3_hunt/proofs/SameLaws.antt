@@ -1,12 +1,9 @@
--- Two rows compared: symbol by symbol from place k on, one after the other, and what the test means. Assumes nothing.
+-- Two rows compared: what the test means, one row after the other, and both inverted. Assumes nothing.
 use mathlib.Core.Path.{_≡_, refl, ap₂}
 use mathlib.Core.Bool.{Bool, true, false, not, xor, _&&_}
 use mathlib.Core.List.{[], _∷_, _++_, map}
-use Prim.Native.Nat.{ℕ, _+_, _≤_, _<_}
-use native.Mathlib.Numerals.{add-one}
 use native.Mathlib.Omega.{arith}
-use lib.ListN.{length, getD, drop, drop-of-length-le}
-use lib.Seq.{drop-cons}
+use lib.ListN.{length}
 use Rattle.bits.specs.Row.{Row}
 use Rattle.bits.proofs.Tests.{both-true, no-yes}
 use Rattle.aes3_hunt.specs.Hunt.{same}
@@ -35,6 +32,19 @@ same-self [] = refl
 same-self (true ∷ r) = same-self r
 same-self (false ∷ r) = same-self r
 
+-- a bit differs from another exactly if they are not the same
+pub no-difference : (b c : Bool) → xor b c ≡ false → b ≡ c
+unfolding xor
+no-difference true true e = refl
+no-difference true false e = no-yes true e refl
+no-difference false true e = no-yes true e refl
+no-difference false false e = refl
+
+pub xor-self : (b : Bool) → xor b b ≡ false
+unfolding xor
+xor-self true = refl
+xor-self false = refl
+
 -- ---- one after the other
 
 and-assoc : (a b c : Bool) → (a && b) && c ≡ a && (b && c)
@@ -51,7 +61,7 @@ same-append (b ∷ r) (c ∷ s) r′ s′ h =
 
 -- ---- both inverted
 
-xor-not : (b c : Bool) → xor (not b) (not c) ≡ xor b c
+pub xor-not : (b c : Bool) → xor (not b) (not c) ≡ xor b c
 unfolding xor
 xor-not true true = refl
 xor-not true false = refl
@@ -64,18 +74,3 @@ same-inverted [] [] = refl
 same-inverted [] (c ∷ s) = refl
 same-inverted (b ∷ r) [] = refl
 same-inverted (b ∷ r) (c ∷ s) = rw (xor-not b c, same-inverted r s)
-
--- ---- a loop that has come to place k of two rows of n
-
-module _ (r s : Row) (n k : ℕ) (long : length r ≡ n) (as-long : length s ≡ n) where
-  pub same-next : k < n → same (drop k r) (drop k s)
-      ≡ not (xor (getD r k false) (getD s k false)) && same (drop (k + 1) r) (drop (k + 1) s)
-  unfolding same
-  same-next h = rw (drop-cons r k false (omega arith), drop-cons s k false (omega arith), add-one k)
-
-  pub same-done : n ≤ k → same (drop k r) (drop k s) ≡ true
-  unfolding same
-  same-done h =
-      let hr : length r ≤ k = omega arith in
-      let hs : length s ≤ k = omega arith in
-      rw (drop-of-length-le r hr, drop-of-length-le s hs)

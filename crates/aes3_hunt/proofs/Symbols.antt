@@ -1,39 +1,54 @@
--- The sixteen symbols of a candidate: where each stands, and which is required. Assumes nothing.
+-- The sixteen symbols of a candidate, as code has them: nine from each of two places, and one number that says which
+-- differ from those required. Assumes nothing.
 use mathlib.Core.Path.{_≡_, refl, sym, ap, ap₂, _∙_}
-use mathlib.Core.Bool.{Bool, true, false, not, xor}
-use mathlib.Core.List.{List, [], _∷_, _++_, map}
-use Prim.Native.Nat.{ℕ, zero, suc, _+_, _-_, _*_, _/_, _%_, _^_, _≤_, _<_}
+use mathlib.Core.Bool.{Bool, true, false}
+use mathlib.Core.List.{List, _++_}
+use Prim.Native.Nat.{ℕ, suc, _+_, _-_, _*_, _/_, _%_, _^_, _≤_, _<_}
 use native.Mathlib.Omega.{arith}
 use lib.Bits.{bitXor}
-use lib.Dec.{eqb}
-use lib.ListN.{length, getD, length-append, List·getD-append}
-use lib.Seq.{getD-append-add}
-use Rattle.bits.specs.Row.{Row, digit, odd, bigBits}
-use Rattle.bits.specs.Window.{part}
+use lib.ListN.{length, getD, length-append}
+use Rattle.bits.specs.Row.{Row, digit, odd, big, bigBits, xorRow}
+use Rattle.bits.specs.Window.{part, window}
 use Rattle.bits.specs.Pack.{symbols}
 use Rattle.bits.proofs.Digits.{digit-odd}
-use Rattle.bits.proofs.Rows.{getD-bigBits, length-bigBits}
-use Rattle.bits.proofs.Windows.{length-part, getD-part}
-use Rattle.bits.proofs.Packing.{highest, getD-chain}
-use Rattle.bits.proofs.Every.{agree}
+use Rattle.bits.proofs.Rows.{getD-bigBits, length-bigBits, bigBits-big, big-append}
+use Rattle.bits.proofs.XorRows.{length-xor, getD-xor, big-xor}
+use Rattle.bits.proofs.Windows.{length-part, window-split, window-low, window-high, window-inside}
+use Rattle.bits.proofs.Packing.{octet-window}
 use Rattle.line.specs.Preamble.{preambleY, preambleZ, afterLevel}
-use Rattle.line.proofs.PreambleLaws.{length-after, after-at}
-use Rattle.aes3_hunt.specs.Hunt.{same, opens, fits}
-use Rattle.aes3_hunt.specs.Inner.{standing, required, agrees}
+use Rattle.line.proofs.PreambleLaws.{after-0, after-1, length-after}
+use Rattle.aes3_hunt.specs.Hunt.{same, opens, fits, standing, required, differs}
+use Rattle.aes3_hunt.specs.Inner.{differences}
 use Rattle.aes3_hunt.proofs.SameLaws.{same-append}
 
--- ---- a symbol of a line of octets, as code takes it out
+-- ---- nine symbols of a line of octets, from two octets
 
-pub symbol-at : (line : List ℕ) (t : ℕ) → t < length line * 8
-    → getD line (t / 8) 0 / 2 ^ (7 - t % 8) % 2 ≡ digit (getD (symbols line) t false)
-symbol-at line t h =
+pub nine-at : (line : List ℕ) (t : ℕ) → getD line (t / 8) 0 < 256 → getD line (t / 8 + 1) 0 < 256
+    → (getD line (t / 8) 0 * 256 + getD line (t / 8 + 1) 0) / 2 ^ (7 - t % 8) % 512 ≡ window (symbols line) t 9
+nine-at line t h g =
     let place : t / 8 * 8 + t % 8 ≡ t = omega arith in
-    let octet : getD (symbols line) t false ≡ odd (getD line (t / 8) 0 / 2 ^ (7 - t % 8)) =
-    ap (λ (i : ℕ). getD (symbols line) i false) (sym place)
-    ∙ getD-chain (highest 8) line (t / 8) (t % 8) (omega arith) (omega arith)
-    ∙ getD-bigBits 8 (getD line (t / 8) 0) (t % 8) (omega arith)
-    ∙ ap (λ (i : ℕ). odd (getD line (t / 8) 0 / 2 ^ i)) (omega arith) in
-    sym (ap digit octet ∙ digit-odd (getD line (t / 8) 0 / 2 ^ (7 - t % 8)))
+    let next : (t / 8 + 1) * 8 ≡ t / 8 * 8 + 8 = omega arith in
+    let width : 7 - t % 8 ≡ 16 - (t % 8 + 9) = omega arith in
+    let second : window (symbols line) (t / 8 * 8 + 8) 8 ≡ getD line (t / 8 + 1) 0 = rw next at (octet-window line (t / 8 + 1) g) in
+    let both : getD line (t / 8) 0 * 256 + getD line (t / 8 + 1) 0 ≡ window (symbols line) (t / 8 * 8) 16 =
+    sym (window-split (symbols line) (t / 8 * 8) 8 8 ∙ rw (octet-window line (t / 8) h, second)) in
+    rw (both, width)
+    (window-inside (symbols line) (t / 8 * 8) 16 (t % 8) 9 (omega arith) ∙ ap (λ (i : ℕ). window (symbols line) i 9) place)
+
+-- the first of nine, and the eight after it
+one-window : (r : Row) (at : ℕ) → window r at 1 ≡ digit (getD r at false)
+unfolding window part big
+one-window r at = go (getD r at false)
+  where
+    go : (b : Bool) → digit b * 2 ^ 0 + 0 ≡ digit b
+    go true = refl
+    go false = refl
+
+pub level-of : (r : Row) (at : ℕ) → window r at 9 / 256 ≡ digit (getD r at false)
+level-of r at = window-high r at 1 8 ∙ one-window r at
+
+pub eight-of : (r : Row) (at : ℕ) → window r at 9 % 256 ≡ window r (at + 1) 8
+eight-of r at = window-low r at 1 8
 
 -- ---- the sixteen together
 
@@ -41,13 +56,17 @@ pub length-standing : (r : Row) (p : ℕ) → length (standing r p) ≡ 16
 unfolding standing
 length-standing r p = length-append (part r p 8) (part r (p + 64) 8) ∙ ap₂ (λ (a b : ℕ). a + b) (length-part r p 8) (length-part r (p + 64) 8)
 
+length-z : (l : Bool) → length (afterLevel l preambleZ) ≡ 8
+length-z l = length-after l preambleZ ∙ length-bigBits 8 0b11101000
+
+length-y : (l : Bool) → length (afterLevel l preambleY) ≡ 8
+length-y l = length-after l preambleY ∙ length-bigBits 8 0b11100100
+
 pub length-required : (r : Row) (p : ℕ) → length (required r p) ≡ 16
 unfolding required
 length-required r p =
     length-append (afterLevel (getD r (p - 1) false) preambleZ) (afterLevel (getD r (p + 63) false) preambleY)
-    ∙ ap₂ (λ (a b : ℕ). a + b)
-    (length-after (getD r (p - 1) false) preambleZ ∙ length-bigBits 8 0b11101000)
-    (length-after (getD r (p + 63) false) preambleY ∙ length-bigBits 8 0b11100100)
+    ∙ ap₂ (λ (a b : ℕ). a + b) (length-z (getD r (p - 1) false)) (length-y (getD r (p + 63) false))
 
 pub fits-all : (r : Row) (p : ℕ) → fits r p ≡ same (standing r p) (required r p)
 unfolding fits opens standing required
@@ -56,81 +75,58 @@ fits-all r p =
     rw before
     (sym (same-append (part r p 8) (afterLevel (getD r (p - 1) false) preambleZ)
     (part r (p + 64) 8) (afterLevel (getD r (p + 63) false) preambleY)
-    (length-part r p 8 ∙ sym (length-after (getD r (p - 1) false) preambleZ ∙ length-bigBits 8 0b11101000))))
+    (length-part r p 8 ∙ sym (length-z (getD r (p - 1) false)))))
 
--- ---- one of them: Z for the first eight, Y for the others
+-- ---- as numbers
 
--- the code's comparison of two digits
-compared : (a l x : Bool) → eqb (bitXor (digit a) (digit l)) (digit x) ≡ not (xor a (xor l x))
-unfolding xor
-compared true true true = refl
-compared true true false = refl
-compared true false true = refl
-compared true false false = refl
-compared false true true = refl
-compared false true false = refl
-compared false false true = refl
-compared false false false = refl
+-- Z and Y after their levels
+required-number : (l m : Bool) → big (afterLevel l preambleZ ++ afterLevel m preambleY) ≡ bitXor 0xE8E4 (digit l * 0xFF00 + digit m * 0xFF)
+unfolding big bigBits
+required-number false false = rw (after-0 preambleZ, after-0 preambleY)
+required-number false true = rw (after-0 preambleZ, after-1 preambleY)
+required-number true false = rw (after-1 preambleZ, after-0 preambleY)
+required-number true true = rw (after-1 preambleZ, after-1 preambleY)
 
--- symbol k of two rows of eight, one after the other
-in-first : (r s : Row) (k : ℕ) → length r ≡ 8 → k < 8 → getD (r ++ s) k false ≡ getD r k false
-in-first r s k n h = List·getD-append r s false k (omega arith)
+module _ (r : Row) (p : ℕ) where
+  standing-number : window r p 8 * 256 + window r (p + 64) 8 ≡ big (standing r p)
+  unfolding standing window
+  standing-number = sym (big-append (part r p 8) (part r (p + 64) 8) ∙ rw (length-part r (p + 64) 8))
 
-in-second : (r s : Row) (k : ℕ) → length r ≡ 8 → 8 ≤ k → getD (r ++ s) k false ≡ getD s (k - 8) false
-in-second r s k n h =
-    let e : k ≡ length r + (k - 8) = omega arith in
-    ap (λ (i : ℕ). getD (r ++ s) i false) e ∙ getD-append-add r s (k - 8) false
+  -- the code's number, from the two times nine symbols
+  pub differing : {z y : ℕ} → 1 ≤ p → z ≡ window r (p - 1) 9 → y ≡ window r (p + 63) 9
+      → bitXor (z % 256 * 256 + y % 256) (bitXor 0xE8E4 (z / 256 * 0xFF00 + y / 256 * 0xFF)) ≡ differences r p
+  unfolding differences required
+  differing {z} {y} h e f =
+      let here : p - 1 + 1 ≡ p = omega arith in
+      let there : p + 63 + 1 ≡ p + 64 = omega arith in
+      rw (e, f, eight-of r (p - 1), eight-of r (p + 63), level-of r (p - 1), level-of r (p + 63), here, there, standing-number)
+      (ap (bitXor (big (standing r p))) (sym (required-number (getD r (p - 1) false) (getD r (p + 63) false)))
+      ∙ sym (big-xor (standing r p) (required r p) (length-standing r p ∙ sym (length-required r p))))
 
--- the levels before the two preambles
-abbrev levelZ : Row → ℕ → Bool
-levelZ r p = getD r (p - 1) false
+  -- its digits: the first of the sixteen highest
+  pub differs-at : (k : ℕ) → k < 16 → differences r p / 2 ^ (15 - k) % 2 ≡ digit (differs r p k)
+  unfolding differences differs
+  differs-at k h =
+      let row = xorRow (standing r p) (required r p) in
+      let n : length row ≡ 16 = length-xor (standing r p) (required r p) (length-standing r p ∙ sym (length-required r p)) ∙ length-required r p in
+      let width : 16 - suc k ≡ 15 - k = omega arith in
+      let back : bigBits 16 (big row) ≡ row = rw n at (bigBits-big row) in
+      let bit : getD row k false ≡ odd (big row / 2 ^ (15 - k)) =
+      ap (λ (s : Row). getD s k false) (sym back) ∙ getD-bigBits 16 (big row) k h ∙ ap (λ (i : ℕ). odd (big row / 2 ^ i)) width in
+      sym (ap digit (sym (getD-xor (standing r p) (required r p) k) ∙ bit) ∙ digit-odd (big row / 2 ^ (15 - k)))
 
-abbrev levelY : Row → ℕ → Bool
-levelY r p = getD r (p + 63) false
+  -- what the code's test of one digit says
+  module _ {d : ℕ} (k : ℕ) (h : k < 16) (e : d ≡ differences r p) where
+    pub seen-differing : d / 2 ^ (15 - k) % 2 ≡ 1 → differs r p k ≡ true
+    seen-differing t = go (differs r p k) (sym (rw e at t) ∙ differs-at k h)
+      where
+        go : (b : Bool) → 1 ≡ digit b → b ≡ true
+        go true f = refl
+        go false f = absurd (omega arith)
 
-module _ (r : Row) (p k : ℕ) where
-  agrees-z : k < 8 → agrees r p k
-      ≡ not (xor (getD r (p + k) false) (xor (getD r (p - 1) false) (getD (preambleZ ++ preambleY) k false)))
-  unfolding agrees standing required
-  agrees-z h =
-      ap₂ (λ (a b : Bool). not (xor a b))
-      (in-first (part r p 8) (part r (p + 64) 8) k (length-part r p 8) h ∙ getD-part r p 8 k h)
-      (in-first (afterLevel (levelZ r p) preambleZ) (afterLevel (levelY r p) preambleY) k
-      (length-after (levelZ r p) preambleZ ∙ length-bigBits 8 0b11101000) h
-      ∙ after-at (levelZ r p) preambleZ k (omega (arith, length-bigBits 8 0b11101000))
-      ∙ ap (xor (levelZ r p)) (sym (in-first preambleZ preambleY k (length-bigBits 8 0b11101000) h)))
-
-  agrees-y : 8 ≤ k → k < 16 → agrees r p k
-      ≡ not (xor (getD r (p + 56 + k) false) (xor (getD r (p + 63) false) (getD (preambleZ ++ preambleY) k false)))
-  unfolding agrees standing required
-  agrees-y g h =
-      let place : p + 64 + (k - 8) ≡ p + 56 + k = omega arith in
-      ap₂ (λ (a b : Bool). not (xor a b))
-      (in-second (part r p 8) (part r (p + 64) 8) k (length-part r p 8) g ∙ getD-part r (p + 64) 8 (k - 8) (omega arith)
-      ∙ ap (λ (i : ℕ). getD r i false) place)
-      (in-second (afterLevel (levelZ r p) preambleZ) (afterLevel (levelY r p) preambleY) k
-      (length-after (levelZ r p) preambleZ ∙ length-bigBits 8 0b11101000) g
-      ∙ after-at (levelY r p) preambleY (k - 8) (omega (arith, length-bigBits 8 0b11100100))
-      ∙ ap (xor (levelY r p)) (sym (in-second preambleZ preambleY k (length-bigBits 8 0b11101000) g)))
-
--- ---- the table of the code
-
-abbrev table : List ℕ
-table = 1 ∷ 1 ∷ 1 ∷ 0 ∷ 1 ∷ 0 ∷ 0 ∷ 0 ∷ 1 ∷ 1 ∷ 1 ∷ 0 ∷ 0 ∷ 1 ∷ 0 ∷ 0 ∷ []
-
-table-at : (k : ℕ) → k < 16 → getD table k 0 ≡ digit (getD (preambleZ ++ preambleY) k false)
-unfolding bigBits
-table-at = agree 16 (λ k. getD table k 0) (λ k. digit (getD (preambleZ ++ preambleY) k false)) tt
-
--- the code's comparison at a place, from the two digits that it took
-module _ (r : Row) (p k : ℕ) {a l : ℕ} where
-  pub tested-z : k < 8 → a ≡ digit (getD r (p + k) false) → l ≡ digit (getD r (p - 1) false) → eqb (bitXor a l) (getD table k 0) ≡ agrees r p k
-  tested-z h e f =
-      rw (e, f, table-at k (omega arith), agrees-z r p k h)
-      (compared (getD r (p + k) false) (getD r (p - 1) false) (getD (preambleZ ++ preambleY) k false))
-
-  pub tested-y : 8 ≤ k → k < 16 → a ≡ digit (getD r (p + 56 + k) false) → l ≡ digit (getD r (p + 63) false)
-      → eqb (bitXor a l) (getD table k 0) ≡ agrees r p k
-  tested-y g h e f =
-      rw (e, f, table-at k h, agrees-y r p k g h)
-      (compared (getD r (p + 56 + k) false) (getD r (p + 63) false) (getD (preambleZ ++ preambleY) k false))
+    pub seen-same : (d / 2 ^ (15 - k) % 2 ≡ 1 → ⊥) → differs r p k ≡ false
+    seen-same t = go (differs r p k) (λ f. t (rw e (differs-at k h ∙ f)))
+      where
+        go : (b : Bool) → (digit b ≡ 1 → ⊥) → b ≡ false
+        go true f = absurd (f refl)
+        go false f = refl

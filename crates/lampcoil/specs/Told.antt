@@ -1,4 +1,5 @@
--- What C is told of an answer: document 01's number and place, then the values, each 0 on a refusal. Assumes nothing.
+-- What C is told of an answer: document 01's number and place, then the values, each 0 on a refusal, but for the hunt's
+-- count. Assumes nothing.
 use Prim.Native.Nat.{ℕ}
 use lib.IntN.{ℤ, pos}
 use Rattle.answer.specs.Answer.{Answer, told}
@@ -10,6 +11,7 @@ use Rattle.lampcoil.specs.declared.ToldNumber.{ToldNumber}
 use Rattle.lampcoil.specs.declared.ToldBody.{ToldBody}
 use Rattle.lampcoil.specs.declared.ToldMeaning.{ToldMeaning}
 use Rattle.lampcoil.specs.declared.ToldBlock.{ToldBlock}
+use Rattle.lampcoil.specs.declared.ToldStart.{ToldStart}
 use Rattle.lampcoil.specs.declared.ToldFrame.{ToldFrame}
 use Rattle.lampcoil.specs.declared.ToldPacket.{ToldPacket}
 
@@ -62,6 +64,12 @@ abbrev pub toldBlock : Answer (ℕ × ℕ) → ToldBlock
 toldBlock a =
     let t = told (0, 0) a in
     record { number = t .0; place = t .1; «crcc_a» = t .2 .0; «crcc_b» = t .2 .1 }
+
+-- where a block starts; the number of symbols compared stands beside a refusal too
+abbrev pub toldStart : Answer ℕ × ℕ → ToldStart
+toldStart a =
+    let t = told 0 (a .0) in
+    record { number = t .0; place = t .1; position = t .2; compared = a .1 }
 
 -- active count and sync count
 abbrev pub toldFrame : Answer (ℕ × ℕ) → ToldFrame

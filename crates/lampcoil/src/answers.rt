@@ -1,17 +1,19 @@
-// The answers of the crates below, laid into the structs that C receives: document 01's number and place, then the values,
-// which are 0 on a refusal.
+// The answers of the crates below, laid into the structs that C receives: document 01's number and place, then the
+// values, which are 0 on a refusal, but for the hunt's count.
 ghost use mathlib.Core.Path.{_≡_};
 ghost use Rattle.answer.specs.Said.{verdictSaid, numberSaid};
 ghost use Rattle.aes3_read.specs.Reader.{blockSaid};
+ghost use Rattle.aes3_hunt.specs.Said.{huntSaid};
 ghost use Rattle.madi_read.specs.Reader.{frameSaid};
 ghost use Rattle.hd_read.specs.Read.{packetSaid};
-ghost use Rattle.lampcoil.specs.Told.{toldVerdict, toldNumber, meaningLaid, toldBlock, toldFrame, toldPacket};
+ghost use Rattle.lampcoil.specs.Told.{toldVerdict, toldNumber, meaningLaid, toldBlock, toldStart, toldFrame, toldPacket};
 use crate::Told;
 use crate::ToldBlock;
 use crate::ToldFrame;
 use crate::ToldMeaning;
 use crate::ToldNumber;
 use crate::ToldPacket;
+use crate::ToldStart;
 use answer::NumberAnswer;
 use answer::Verdict;
 use status::MeaningNumbers;
@@ -86,6 +88,28 @@ pub fn block(a: aes3_read::ReadAnswer) -> ToldBlock
             place,
             crcc_a: 0,
             crcc_b: 0,
+        },
+    }
+}
+
+// The count is told beside a refusal too.
+pub fn start(a: aes3_hunt::HuntAnswer) -> ToldStart
+    ensures { λ r. ⌜ r ≡ toldStart (huntSaid a) ⌝ }
+{
+    let found = a.start;
+    let compared = a.compared;
+    match found {
+        NumberAnswer::Number(position) => ToldStart {
+            number: 0,
+            place: 0,
+            position,
+            compared,
+        },
+        NumberAnswer::Refused { number, place } => ToldStart {
+            number,
+            place,
+            position: 0,
+            compared,
         },
     }
 }

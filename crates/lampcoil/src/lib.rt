@@ -1,6 +1,7 @@
-// What the C program calls: numbers and slices in, a struct of numbers out. Each entry takes the answer of the crate below that does
-// the work and lays it into a struct: number and place first, the values after them, which are 0 on a refusal. Where an answer is one
-// number, one struct serves; the header has a name for each of its uses.
+// What the C program calls: numbers and slices in, a struct of numbers out. Each entry takes the answer of the crate
+// below that does the work and lays it into a struct: number and place first, the values after them, which are 0 on a
+// refusal (but for the hunt's count). Where an answer is one number, one struct serves; the header has a name for each
+// of its uses.
 ghost use mathlib.Core.Path.{_≡_};
 ghost use lib.ListN.{length};
 ghost use Rattle.answer.specs.Answer.{Answer.accepted, mapped, verdict, after, rewritten};
@@ -11,7 +12,7 @@ ghost use Rattle.line.specs.Biphase.{tableLaid};
 ghost use Rattle.block.specs.Block.{samplesOf, sideOf};
 ghost use Rattle.aes3_write.specs.Writer.{writeAnswer};
 ghost use Rattle.aes3_read.specs.Reader.{readAnswer, crccs};
-ghost use Rattle.aes3_hunt.specs.Hunt.{hunted};
+ghost use Rattle.aes3_hunt.specs.Hunt.{boundedHunt};
 ghost use Rattle.madi_write.specs.Writer.{frameWritten};
 ghost use Rattle.madi_read.specs.Reader.{frameRead, countsOf, wordsOf};
 ghost use Rattle.hd_write.specs.Write.{wordsWritten};
@@ -21,7 +22,7 @@ ghost use Rattle.hd_read.specs.Read.{readAnswer as packetReadAnswer};
 ghost use Rattle.hd_repair.specs.Repair.{repairAnswer, lanesChanged, wordsRepaired};
 ghost use Rattle.anc.specs.Dbn.{nextDbn};
 ghost use Rattle.lampcoil.specs.Status.{rightAnswer, meaningAnswer};
-ghost use Rattle.lampcoil.specs.Told.{toldVerdict, toldNumber, toldBody, toldMeaning, toldBlock, toldFrame, toldPacket, fieldsLent};
+ghost use Rattle.lampcoil.specs.Told.{toldVerdict, toldNumber, toldBody, toldMeaning, toldBlock, toldStart, toldFrame, toldPacket, fieldsLent};
 
 mod answers;
 
@@ -37,7 +38,7 @@ pub struct Told {
     pub place: u32,
 }
 
-// One number: a body, the CRCC's stages, a lane, a block's start, a DBN, lanes mended, whether a CRCC is right.
+// One number: a body, the CRCC's stages, a lane, a DBN, lanes mended, whether a CRCC is right.
 #[repr(C)]
 pub struct ToldNumber {
     pub number: u32,
@@ -84,6 +85,15 @@ pub struct ToldBlock {
     pub place: u32,
     pub crcc_a: u32,
     pub crcc_b: u32,
+}
+
+// Where a block starts; `compared` stands beside a refusal too.
+#[repr(C)]
+pub struct ToldStart {
+    pub number: u32,
+    pub place: u32,
+    pub position: u32,
+    pub compared: u32,
 }
 
 #[repr(C)]
@@ -263,12 +273,12 @@ pub extern "C" fn lampcoil_aes3_read(line: &[u8], samples: &mut [i32], side: &mu
     answers::block(aes3_read::read_block(line, samples, side))
 }
 
-// Where the first block of a line starts.
+// Where the first block of a line starts, and how many symbols were compared.
 #[no_mangle]
-pub extern "C" fn lampcoil_aes3_find(line: &[u8]) -> ToldNumber
-    ensures { λ r. ⌜ r ≡ toldNumber (hunted (now (line .entry))) ⌝ }
+pub extern "C" fn lampcoil_aes3_find(line: &[u8]) -> ToldStart
+    ensures { λ r. ⌜ r ≡ toldStart (boundedHunt (now (line .entry))) ⌝ }
 {
-    answers::number(aes3_hunt::find_start(line))
+    answers::start(aes3_hunt::find_start(line))
 }
 
 // ---- MADI

@@ -224,11 +224,15 @@ fn damaged() {
     read(&short);
 }
 
-// ---- the hunt: a start behind an octet, and each of its symbols changed
+// ---- the hunt and its count: a start behind an octet, and each of its symbols changed
 
 fn find(line: &[u8]) {
     io::write_all(1, b"find");
-    show_number(aes3_hunt::find_start(line));
+    let r = aes3_hunt::find_start(line);
+    let compared = r.compared;
+    let start = r.start;
+    show_number(start);
+    number(wide(compared));
     end();
 }
 

@@ -1,40 +1,45 @@
--- `aes3_hunt::find_start` meets its contract. Outer invariant: the answer is that of the candidates from p on. Inner:
--- besides, whether p fits is what its symbols from k on say. A `continue` of the outer loop steps p inside the inner
--- one, so the inner invariant says that p is still the outer p. Assumes nothing.
-use mathlib.Core.Path.{_≡_, sym, _∙_}
-use mathlib.Core.Bool.{false}
+-- `aes3_hunt::find_start` meets its contract. Outer invariant: the answer is that of the candidates from p on, and the
+-- count is the total of those before p. Inner: besides, none of p's first k symbols differs. A `continue` of the outer
+-- loop steps p and the count inside the inner one, so the inner invariant says that p is still the outer p. Assumes
+-- nothing.
+use mathlib.Core.Path.{_≡_, sym, ap, _∙_}
+use mathlib.Core.Bool.{true}
 use mathlib.Core.List.{List}
 use Prim.Native.Nat.{ℕ, _+_, _-_, _*_, _≤_, _<_}
 use native.Mathlib.Omega.{arith}
 use borrow.Author.Needs.{needs}
-use borrow.Author.Tests.{not-true, not-false}
+use borrow.Author.Count.{below-more}
 use lib.ListN.{length}
+use Rattle.bits.specs.Row.{Row}
 use Rattle.bits.specs.Pack.{symbols}
 use Rattle.bits.proofs.Firsts.{first-hit, first-next, first-miss}
 use Rattle.answer.specs.Answer.{Answer.accepted, Answer.refused}
-use Rattle.aes3_hunt.specs.Hunt.{fits, hunted}
-use Rattle.aes3_hunt.specs.Inner.{agrees}
-use Rattle.aes3_hunt.proofs.Symbols.{fits-all}
-use Rattle.aes3_hunt.proofs.Turns.{rest, symbol-there, symbol-differs, all-there, onwards, hunt-long, hunt-begins}
+use Rattle.aes3_hunt.specs.Hunt.{fits, hunted, differs, total}
+use Rattle.aes3_hunt.specs.Inner.{differences}
+use Rattle.aes3_hunt.proofs.Symbols.{seen-differing, seen-same}
+use Rattle.aes3_hunt.proofs.Cost.{NoneBefore, fits-same, misfit, cost-differs, cost-same}
+use Rattle.aes3_hunt.proofs.Compared.{total-most}
+use Rattle.aes3_hunt.proofs.Turns.{onwards, hunt-begins, hunt-long, hunt-found, hunt-ends, total-none, total-next}
 use Rattle.aes3_hunt.proofs.find_start.Statement.{statement}
 use Rattle.aes3_hunt.proofs.find_start.Tie as tie
 
 abbrev Inv-loop : tie.InvT-loop
-Inv-loop line t end p₀ k₀ p k =
-    (p ≡ p₀) × (k ≤ 16) × (onwards line end p ≡ hunted line) × (fits (symbols line) p ≡ rest (symbols line) p k)
+Inv-loop line t end compared₀ p₀ differing k₀ compared p k =
+    (p ≡ p₀) × (k ≤ 16) × (onwards line end p ≡ hunted line) × (compared ≡ total (symbols line) (p - 1)) × NoneBefore (symbols line) p k
 
 abbrev μ-loop : tie.MeasureT-loop
-μ-loop line t end p₀ k₀ p k = 16 - k
+μ-loop line t end compared₀ p₀ differing k₀ compared p k = 16 - k
 
 abbrev Inv-next : tie.InvT-next
-Inv-next line t end p₀ p = (1 ≤ p) × (p ≤ end) × (onwards line end p ≡ hunted line)
+Inv-next line t end compared₀ p₀ compared p =
+    (1 ≤ p) × (p ≤ end) × (onwards line end p ≡ hunted line) × (compared ≡ total (symbols line) (p - 1))
 
 abbrev μ-next : tie.MeasureT-next
-μ-next line t end p₀ p = end - p
+μ-next line t end compared₀ p₀ compared p = end - p
 
 module _ (c : tie.At-loop Inv-loop μ-loop Inv-next μ-next) where
   abbrev line : List ℕ
-  line = c .before .before .before .before .before .before .args .line .now
+  line = c .before .before .before .before .before .before .before .args .line .now
 
   abbrev p : ℕ
   p = c .loop .p
@@ -45,19 +50,35 @@ module _ (c : tie.At-loop Inv-loop μ-loop Inv-next μ-next) where
   abbrev end : ℕ
   end = length line * 8 - 71
 
+  abbrev r : Row
+  r = symbols line
+
+  -- what was compared is the candidate's
+  compared-here : c .before .compare .result ≡ differences r p
+  compared-here = c .before .compare .ensures ∙ ap (differences r) (sym (c .loop .inv .0))
+
   -- a symbol differs: on with the next candidate
-  passed : k < 16 → agrees (symbols line) p k ≡ false → onwards line end (p + 1) ≡ hunted line
-  passed h differs =
-      sym (first-next (fits (symbols line)) accepted (refused 17 0) end p (omega arith)
-      (c .loop .inv .3 ∙ symbol-differs (symbols line) p k h differs))
-      ∙ c .loop .inv .2
+  passed : differs r p k ≡ true → onwards line end (p + 1) ≡ hunted line
+  passed d = sym (first-next (fits r) accepted (refused 17 0) end p (omega arith) (misfit r p k d)) ∙ c .loop .inv .2
+
+  passed-count : k < 16 → differs r p k ≡ true → c .loop .compared + (k + 1) ≡ total r (p + 1 - 1)
+  passed-count h d =
+      let place : p + 1 - 1 ≡ p = omega arith in
+      let more : total r (p - 1) + (k + 1) ≡ total r p =
+      total-next r p (k + 1) (omega arith) (sym (cost-differs r p k h (c .loop .inv .4) d)) in
+      rw place (omega (arith, c .loop .inv .3))
 
   -- none differed
+  none-differed : 16 ≤ k → NoneBefore r p 16
+  none-differed h j l = c .loop .inv .4 j (omega arith)
+
   found : 16 ≤ k → accepted p ≡ hunted line
-  found h =
-      sym (first-hit (fits (symbols line)) accepted (refused 17 0) end p (omega arith)
-      (c .loop .inv .3 ∙ all-there (symbols line) p k h))
-      ∙ c .loop .inv .2
+  found h = sym (first-hit (fits r) accepted (refused 17 0) end p (omega arith) (fits-same r p (none-differed h))) ∙ c .loop .inv .2
+
+  found-count : 16 ≤ k → c .loop .compared + 16 ≡ total r p
+  found-count h =
+      let more : total r (p - 1) + 16 ≡ total r p = total-next r p 16 (omega arith) (sym (cost-same r p (none-differed h))) in
+      omega (arith, c .loop .inv .3)
 
 returns : tie.Need-returns Inv-loop μ-loop Inv-next μ-next
 returns c = hunt-long (c .before .before .args .line .now) (c .if1 .taken)
@@ -68,20 +89,40 @@ mul-t c = search needs
 returns-2 : tie.Need-returns-2 Inv-loop μ-loop Inv-next μ-next
 returns-2 c =
     let s = c .before .before .before .args .line .now in
-    sym (first-miss (fits (symbols s)) accepted (refused 17 0) (length s * 8 - 71) 1 (omega arith)) ∙ hunt-begins s (c .before .if1 .left)
+    let n : length s * 8 - 72 ≡ 0 = omega arith in
+    hunt-ends s 0
+    (sym (first-miss (fits (symbols s)) accepted (refused 17 0) (length s * 8 - 71) 1 (omega arith)) ∙ hunt-begins s (c .before .if1 .left))
+    (rw n (sym (total-none (symbols s))))
 
 sub-end : tie.Need-sub-end Inv-loop μ-loop Inv-next μ-next
 sub-end c = search needs
 
 next-holds : tie.Need-next-holds Inv-loop μ-loop Inv-next μ-next
-next-holds c = (search needs, search needs, hunt-begins (c .before .before .before .args .line .now) (c .before .if1 .left))
+next-holds c =
+    let s = c .before .before .before .args .line .now in
+    (search needs, search needs, hunt-begins s (c .before .if1 .left), sym (total-none (symbols s)))
+
+compare-requires : tie.Need-compare-requires Inv-loop μ-loop Inv-next μ-next
+compare-requires c κs = search needs
 
 loop-holds : tie.Need-loop-holds Inv-loop μ-loop Inv-next μ-next
 loop-holds c =
-    (search needs, search needs, c .before .next .inv .2, fits-all (symbols (c .before .before .before .before .before .args .line .now)) (c .before .next .p))
+    let n = c .before .before .next .inv in
+    (search needs, search needs, n .2, omega (arith, n .3), λ j l. absurd (omega arith))
 
-agrees-at-requires : tie.Need-agrees-at-requires Inv-loop μ-loop Inv-next μ-next
-agrees-at-requires c κs = search needs
+sub-if3 : tie.Need-sub-if3 Inv-loop μ-loop Inv-next μ-next
+sub-if3 c = search needs
+
+shr-if3 : tie.Need-shr-if3 Inv-loop μ-loop Inv-next μ-next
+shr-if3 c = search needs
+
+add-compared : tie.Need-add-compared Inv-loop μ-loop Inv-next μ-next
+add-compared c = search needs
+
+add-compared-2 : tie.Need-add-compared-2 Inv-loop μ-loop Inv-next μ-next
+add-compared-2 c =
+    let a = c .before .before in
+    omega (arith, a .loop .inv .3, total-most (r a) (p a - 1), a .before .before .before .next .inv .1)
 
 add-p : tie.Need-add-p Inv-loop μ-loop Inv-next μ-next
 add-p c = search needs
@@ -91,9 +132,9 @@ next-less c = search needs
 
 next-again : tie.Need-next-again Inv-loop μ-loop Inv-next μ-next
 next-again c =
-    let a = c .before .before .before in
-    let differs = sym (c .before .agrees-at .ensures) ∙ not-true _ (c .if3 .taken) in
-    (search needs, search needs, passed a (omega arith) differs)
+    let a = c .before .before in
+    let d = seen-differing (r a) (p a) (k a) (omega arith) (compared-here a) (c .if3 .taken) in
+    (search needs, search needs, passed a d, passed-count a (omega arith) d)
 
 add-k : tie.Need-add-k Inv-loop μ-loop Inv-next μ-next
 add-k c = search needs
@@ -103,21 +144,31 @@ loop-less c = search needs
 
 loop-again : tie.Need-loop-again Inv-loop μ-loop Inv-next μ-next
 loop-again c =
-    let a = c .before .before .before in
-    let there = sym (c .before .agrees-at .ensures) ∙ not-false _ (c .if3 .left) in
-    (search needs, search needs, a .loop .inv .2, a .loop .inv .3 ∙ symbol-there (symbols (line a)) (p a) (k a) (omega arith) there)
+    let a = c .before .before in
+    let same = seen-same (r a) (p a) (k a) (omega arith) (compared-here a) (c .if3 .left) in
+    (search needs, search needs, a .loop .inv .2, omega (arith, a .loop .inv .3), below-more _ _ (a .loop .inv .4) same)
 
-cast-t11 : tie.Need-cast-t11 Inv-loop μ-loop Inv-next μ-next
-cast-t11 c = search needs
+cast-t18 : tie.Need-cast-t18 Inv-loop μ-loop Inv-next μ-next
+cast-t18 c = search needs
+
+add-t20 : tie.Need-add-t20 Inv-loop μ-loop Inv-next μ-next
+add-t20 c =
+    let a = c .before in
+    omega (arith, a .loop .inv .3, total-most (r a) (p a - 1), a .before .before .before .next .inv .1)
 
 returns-3 : tie.Need-returns-3 Inv-loop μ-loop Inv-next μ-next
-returns-3 c = found (c .before) (omega arith)
+returns-3 c =
+    let a = c .before in
+    hunt-found (line a) (p a) (a .loop .compared + 16) (found a (c .loop-test .left)) (found-count a (c .loop-test .left))
 
 returns-4 : tie.Need-returns-4 Inv-loop μ-loop Inv-next μ-next
 returns-4 c =
+    let n = c .before .next in
     let s = c .before .before .before .before .before .args .line .now in
-    sym (first-miss (fits (symbols s)) accepted (refused 17 0) (length s * 8 - 71) (c .before .next .p) (omega arith))
-    ∙ c .before .next .inv .2
+    let last : n .p - 1 ≡ length s * 8 - 72 = omega (arith, n .inv .1) in
+    hunt-ends s (n .compared)
+    (sym (first-miss (fits (symbols s)) accepted (refused 17 0) (length s * 8 - 71) (n .p) (omega arith)) ∙ n .inv .2)
+    (n .inv .3 ∙ ap (total (symbols s)) last)
 
 pub find-start-spec : {M : Type 1} → statement M
 find-start-spec =
@@ -132,14 +183,19 @@ find-start-spec =
     returns-2
     sub-end
     next-holds
+    compare-requires
     loop-holds
-    agrees-at-requires
+    sub-if3
+    shr-if3
+    add-compared
+    add-compared-2
     add-p
     next-less
     next-again
     add-k
     loop-less
     loop-again
-    cast-t11
+    cast-t18
+    add-t20
     returns-3
     returns-4)
