@@ -129,16 +129,16 @@ header:
 	    echo '#include "lampcoil.h"' | c++ -std=c++11 -Wall -Wextra -Werror -pedantic -Iinclude -x c++ -fsyntax-only -; fi
 
 # The second program on what is written down with its answer, watched by the sanitisers where the compiler has them;
-# and on every constant of the header.
+# on every constant of the header; and on every change of status bits that a right CRCC excludes.
 second: build/stand_in.o
-	for t in listed constants; do \
+	for t in listed constants caught; do \
 	    $(CC) $(CFLAGS) $$(CC="$(CC)" tests/sanitise) -Iinclude -o build/$${t}_second tests/$$t.c build/stand_in/*.c || exit 1; \
 	    build/$${t}_second || exit 1; done
 
 # The library on the same.
 listed: $(ARCHIVE)
 	@mkdir -p build
-	for t in listed constants; do \
+	for t in listed constants caught; do \
 	    $(X86) cc $(CFLAGS) -Iinclude -o build/$$t tests/$$t.c $(ARCHIVE) || exit 1; \
 	    $(X86) run build/$$t || exit 1; done
 

@@ -126,7 +126,10 @@ lampcoil_body_meaning lampcoil_body_read(uint32_t body);
 /* Writes byte 23, the CRCC over bytes 0 to 22, and nothing else. LENGTH unless 24 octets. */
 lampcoil_verdict lampcoil_status_seal(uint8_t *status, size_t status_len);
 
-/* `right` is 1 if byte 23 is the CRCC over bytes 0 to 22, else 0. LENGTH unless 24 octets. */
+/* `right` is 1 if byte 23 is the CRCC over bytes 0 to 22, else 0. LENGTH unless 24 octets.
+   What right excludes: a block that was right and of which one bit was changed, or two bits anywhere, or any set of
+   bits within eight consecutive positions of the sending order (across bytes, byte 23 among them), is wrong afterwards.
+   What it does not exclude: three or more scattered bits, that is, such as do not lie within eight positions. */
 typedef struct { uint32_t number, place, right; } lampcoil_status_check;
 lampcoil_status_check lampcoil_status_right(const uint8_t *status, size_t status_len);
 
