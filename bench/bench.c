@@ -59,6 +59,31 @@ BOTH(hd_write, lampcoil_verdict, hd_write, (1, 17, 1234, 0, 1, 0, bodies, 4, bac
 BOTH(hd_read, lampcoil_hd_read_answer, hd_read, (packet, 31, back_bodies, 4))
 BOTH(repair, lampcoil_hd_repair_answer, hd_repair, (packet, 31, back_packet, 31))
 BOTH(repair_damaged, lampcoil_hd_repair_answer, hd_repair, (damaged, 31, back_packet, 31))
+
+/* An edit changes its block in place, so each call starts from the same one; the copy of it is in both times. */
+static uint8_t status[24], back_status[24];
+
+#define EDIT(name, edit)                                                                                                         \
+    static lampcoil_verdict name##_of(uint32_t byte)                                                                             \
+    {                                                                                                                            \
+        memcpy(back_status, status, sizeof status);                                                                              \
+        return edit(back_status, 24, byte, (uint32_t)status[byte] ^ 0x5A);                                                       \
+    }                                                                                                                            \
+    PROGRAM(name##_0, lampcoil_verdict, name##_of(0))                                                                            \
+    PROGRAM(name##_22, lampcoil_verdict, name##_of(22))
+
+/* The same by the library's other entries: judged, the byte set, sealed afresh. */
+static lampcoil_verdict sealed_afresh(uint8_t *block, size_t octets, uint32_t byte, uint32_t value)
+{
+    if (lampcoil_status_right(block, octets).right != 1)
+        return (lampcoil_verdict){5, 0};
+    block[byte] = (uint8_t)value;
+    return lampcoil_status_seal(block, octets);
+}
+
+EDIT(library_edit, lampcoil_status_edit)
+EDIT(by_hand_edit, hand_status_edit)
+EDIT(afresh_edit, sealed_afresh)
 PROGRAM(by_hand_by_candidate, lampcoil_aes3_start, hand_aes3_find_by_candidate(hunted, HUNTED))
 
 static uint32_t state = 1;
@@ -103,6 +128,7 @@ static void prepare_carriers(void)
         uint32_t flags = draw();
         words[k] = lampcoil_body_write(sample, flags & 1, flags >> 1 & 1, flags >> 2 & 1).body;
     }
+    memcpy(status, side + 48, sizeof status);
     memcpy(bodies, words, sizeof bodies);
     lampcoil_aes3_write(samples, 384, side, 144, 0, line, 3072);
     lampcoil_madi_write(64, words, 64, SYNCS, 0, madi, sizeof madi);
@@ -194,6 +220,10 @@ static const operation all[] = {
     {"the same; C candidate by candidate", &library_find, &by_hand_by_candidate, hunt_noise, HUNTED, {{0}}},
     {"hunt, 8,192 octets with Z in each, no start; C 64 symbols at once", &library_find, &by_hand_find, hunt_z, HUNTED, {{0}}},
     {"the same; C candidate by candidate", &library_find, &by_hand_by_candidate, hunt_z, HUNTED, {{0}}},
+    {"status edit, byte 0; C sets it and seals afresh", &library_edit_0, &by_hand_edit_0, nothing, 24, {FILLS(back_status)}},
+    {"status edit, byte 22; the same C", &library_edit_22, &by_hand_edit_22, nothing, 24, {FILLS(back_status)}},
+    {"status edit, byte 0; for C the library's right and seal", &library_edit_0, &afresh_edit_0, nothing, 24, {FILLS(back_status)}},
+    {"status edit, byte 22; the same", &library_edit_22, &afresh_edit_22, nothing, 24, {FILLS(back_status)}},
     {"MADI write, 64 channels", &library_madi_write, &by_hand_madi_write, nothing, sizeof madi, {FILLS(back_madi)}},
     {"MADI read, 64 channels", &library_madi_read, &by_hand_madi_read, nothing, sizeof madi, {FILLS(back_words)}},
     {"HD write, a packet", &library_hd_write, &by_hand_hd_write, nothing, 62, {FILLS(back_packet)}},

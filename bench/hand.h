@@ -18,6 +18,7 @@ lampcoil_aes3_read_answer hand_aes3_read(const uint8_t *line, size_t line_len, i
                                          size_t side_len);
 lampcoil_aes3_start hand_aes3_find(const uint8_t *line, size_t line_len);
 lampcoil_aes3_start hand_aes3_find_by_candidate(const uint8_t *line, size_t line_len);
+lampcoil_verdict hand_status_edit(uint8_t *status, size_t status_len, uint32_t byte, uint32_t value);
 lampcoil_verdict hand_madi_write(uint32_t channels, const uint32_t *words, size_t words_len, uint32_t syncs, uint32_t level,
                                  uint8_t *line, size_t line_len);
 lampcoil_madi_read_answer hand_madi_read(uint32_t channels, uint32_t level, uint32_t bits, const uint8_t *line, size_t line_len,

@@ -37,6 +37,20 @@ static uint8_t crcc_of(const uint8_t *status)
     return r;
 }
 
+/* An edit by sealing afresh: the byte is set, and the CRCC goes over all 23 again. */
+lampcoil_verdict hand_status_edit(uint8_t *status, size_t status_len, uint32_t byte, uint32_t value)
+{
+    if (status_len != 24)
+        return (lampcoil_verdict){1, 0};
+    if (byte > 22 || value > 255)
+        return (lampcoil_verdict){2, 0};
+    if (crcc_of(status) != status[23])
+        return (lampcoil_verdict){5, 0};
+    status[byte] = (uint8_t)value;
+    status[23] = crcc_of(status);
+    return (lampcoil_verdict){0, 0};
+}
+
 static int all_ones(const uint8_t *octets)
 {
     uint8_t all = 0xFF;

@@ -13,6 +13,7 @@
 #else
 #define lampcoil_aes3_find hand_aes3_find
 #endif
+#define lampcoil_status_edit hand_status_edit
 #define lampcoil_madi_write hand_madi_write
 #define lampcoil_madi_read hand_madi_read
 #define lampcoil_hd_write hand_hd_write

@@ -30,9 +30,9 @@ extern "C" {
 #endif
 
 /* The version of this header and of the library beside it. A larger MAJOR may take something away; MINOR adds. */
-#define LAMPCOIL_VERSION "2.0.0"
+#define LAMPCOIL_VERSION "2.1.0"
 #define LAMPCOIL_VERSION_MAJOR 2
-#define LAMPCOIL_VERSION_MINOR 0
+#define LAMPCOIL_VERSION_MINOR 1
 #define LAMPCOIL_VERSION_PATCH 0
 
 /* Numbers that come back, and what their place is; lampcoil_refusal_text tells when each is given. */
@@ -41,7 +41,7 @@ extern "C" {
 #define LAMPCOIL_REFUSED_RANGE 2u
 #define LAMPCOIL_REFUSED_SAMPLE 3u       /* place: sample index; at body_write 0 */
 #define LAMPCOIL_REFUSED_CONSUMER 4u     /* place: channel, 0 for A, 1 for B */
-#define LAMPCOIL_REFUSED_CRCC 5u         /* place: channel */
+#define LAMPCOIL_REFUSED_CRCC 5u         /* place: channel; at status_edit 0 */
 #define LAMPCOIL_REFUSED_VALIDITY 6u     /* place: channel */
 #define LAMPCOIL_REFUSED_PREAMBLE 7u     /* place: subframe 0 to 383 */
 #define LAMPCOIL_REFUSED_SLOT 8u         /* place: subframe */
@@ -64,7 +64,7 @@ static inline const char *lampcoil_refusal_text(uint32_t number)
         "a number is outside its range",
         "a sample is outside -8,388,608 to 8,388,607",
         "writer: status byte 0 bit 0 is 0",
-        "writer: status byte 23 is wrong",
+        "writer or edit: status byte 23 is wrong",
         "writer: byte 0 bit 1 is 1 and some V of that channel is 0",
         "not the preamble due at this subframe",
         "a slot does not begin with a change of level",
@@ -125,6 +125,11 @@ lampcoil_body_meaning lampcoil_body_read(uint32_t body);
 
 /* Writes byte 23, the CRCC over bytes 0 to 22, and nothing else. LENGTH unless 24 octets. */
 lampcoil_verdict lampcoil_status_seal(uint8_t *status, size_t status_len);
+
+/* Sets one byte, 0 to 22, of a block that is right to a value, 0 to 255, and byte 23 to the CRCC that belongs to it; no
+   other byte is changed. The block is then what setting the byte and sealing afresh makes of it.
+   Order: LENGTH (unless 24 octets), RANGE (byte above 22, value above 255), CRCC (byte 23 is wrong beforehand). */
+lampcoil_verdict lampcoil_status_edit(uint8_t *status, size_t status_len, uint32_t byte, uint32_t value);
 
 /* `right` is 1 if byte 23 is the CRCC over bytes 0 to 22, else 0. LENGTH unless 24 octets.
    What right excludes: a block that was right and of which one bit was changed, or two bits anywhere, or any set of

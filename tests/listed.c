@@ -145,6 +145,34 @@ static void test_status(void)
     expect(lampcoil_status_read(three, 23).number == 1, "23 octets of status");
 }
 
+/* Three edits lead from the block of example 9 to that of example 8; refusals in their order; sums of right blocks. */
+static void test_edit(void)
+{
+    uint8_t one[24] = {0x3D, 0x02, 0, 0, 0x02}, two[24] = {0x01}, three[24] = {0x01}, kept[24];
+    lampcoil_status_seal(one, 24);
+    lampcoil_status_seal(two, 24);
+    lampcoil_status_seal(three, 24);
+    expect(lampcoil_status_edit(two, 24, 0, 0x3D).number == 0 && lampcoil_status_edit(two, 24, 1, 0x02).number == 0 &&
+           lampcoil_status_edit(two, 24, 4, 0x02).number == 0 && memcmp(one, two, 24) == 0, "example 9 edited into example 8");
+    expect(lampcoil_status_edit(two, 24, 22, 0xFF).number == 0 && two[22] == 0xFF && lampcoil_status_right(two, 24).right == 1,
+           "byte 22 edited");
+    memcpy(kept, two, 24);
+    expect(lampcoil_status_edit(two, 23, 23, 256).number == 1 && lampcoil_status_edit(two, 25, 0, 0).number == 1, "23 and 25 octets");
+    expect(lampcoil_status_edit(two, 24, 23, 0).number == 2, "byte 23 is not edited");
+    expect(lampcoil_status_edit(two, 24, 0, 256).number == 2, "a value of 256");
+    two[23] ^= 1;
+    expect(lampcoil_status_edit(two, 24, 23, 0).number == 2, "2 goes before 5");
+    lampcoil_verdict v = lampcoil_status_edit(two, 24, 0, 0);
+    two[23] ^= 1;
+    expect(v.number == 5 && v.place == 0 && memcmp(two, kept, 24) == 0, "a wrong block is not edited");
+    for (int k = 0; k < 24; k++)
+        kept[k] = (uint8_t)(one[k] ^ two[k]);
+    expect(lampcoil_status_right(kept, 24).right == 0, "the exclusive or of two right blocks");
+    for (int k = 0; k < 24; k++)
+        kept[k] = (uint8_t)(kept[k] ^ three[k]);
+    expect(lampcoil_status_right(kept, 24).right == 1, "the exclusive or of three right blocks");
+}
+
 static void test_lanes(void)
 {
     int remainder_found = 1;
@@ -252,6 +280,7 @@ int main(void)
     test_silence();
     test_under_z();
     test_status();
+    test_edit();
     test_lanes();
     test_packet();
     test_madi();

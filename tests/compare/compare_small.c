@@ -39,6 +39,15 @@ static void draw_status(uint8_t status[32])
     }
 }
 
+static void status_edit(const uint8_t *status, size_t n, uint32_t byte, uint32_t value)
+{
+    begin("status_edit");
+    lent s = lend_both("status", status, n, 1);
+    lampcoil_verdict a = lampcoil_status_edit(s.library, s.elements, byte, value);
+    second_verdict b = second_status_edit(s.second, s.elements, byte, value);
+    END(a, b);
+}
+
 static void status_entries(void)
 {
     uint8_t status[32];
@@ -49,6 +58,10 @@ static void status_entries(void)
     lampcoil_verdict a = lampcoil_status_seal(s.library, s.elements);
     second_verdict b = second_status_seal(s.second, s.elements);
     END(a, b);
+
+    n = any_length(24);
+    uint32_t byte = any_number(22), value = any_number(255);
+    status_edit(status, n, byte, value);
 
     n = any_length(24);
     begin("status_right");
@@ -63,6 +76,28 @@ static void status_entries(void)
     lampcoil_status_meaning e = lampcoil_status_read(s.library, s.elements);
     second_status_meaning f = second_status_read(s.second, s.elements);
     END(e, f);
+}
+
+/* Every byte with every value, each on a right block of its own, and byte 23 and a value of 256 too; and for each byte
+   a block that is wrong in one bit, and lengths of 23 and 25. */
+static void all_edits(void)
+{
+    uint8_t status[32];
+    for (uint32_t byte = 0; byte <= 23; byte++) {
+        for (uint32_t value = 0; value <= 256; value++) {
+            random_octets(status, 32);
+            second_status_seal(status, 24);
+            status_edit(status, 24, byte, value);
+        }
+        status_edit(status, 23, byte, below(256));
+        status_edit(status, 25, byte, below(256));
+        for (uint32_t at = 0; at < 24; at++) {
+            random_octets(status, 32);
+            second_status_seal(status, 24);
+            status[at] ^= (uint8_t)second_weight((int)below(8));
+            status_edit(status, 24, byte, below(256));
+        }
+    }
 }
 
 /* Every state of bytes 0 to 2, one byte at a time, and of byte 2 under professional use. */
@@ -146,7 +181,7 @@ static void next_dbn(uint32_t dbn)
 void compare_small(uint32_t cases)
 {
     static const int of_body_write[] = {0, 2, 3, -1}, of_body_read[] = {0, 9, 12, -1}, of_status[] = {0, 1, -1},
-                     of_crcc[] = {0, 2, -1}, of_lane[] = {0, 2, 15, -1};
+                     of_edit[] = {0, 1, 2, 5, -1}, of_crcc[] = {0, 2, -1}, of_lane[] = {0, 2, 15, -1};
     for (uint32_t k = 0; k < cases; k++) {
         body_write();
         body_read();
@@ -156,6 +191,7 @@ void compare_small(uint32_t cases)
             lane_repair();
     }
     all_states();
+    all_edits();
     at_the_edges(status_entries);
     crcc();
     for (uint32_t dbn = 0; dbn < 300; dbn++)
@@ -165,6 +201,7 @@ void compare_small(uint32_t cases)
     must_have_seen("body_write", of_body_write);
     must_have_seen("body_read", of_body_read);
     must_have_seen("status_seal", of_status);
+    must_have_seen("status_edit", of_edit);
     must_have_seen("status_right", of_status);
     must_have_seen("status_read", of_status);
     must_have_seen("crcc_feed", of_crcc);

@@ -12,7 +12,8 @@ enum { MEMORY = 65536, MOST_SLICES = 3, TIMES = 8 };
 
 /* Every slice argument of the header; tests/compared holds what is printed below to the header itself. */
 static const struct { const char *entry, *argument; } slices[] = {
-    {"status_seal", "status"},  {"status_right", "status"}, {"status_read", "status"}, {"aes3_write", "samples"},
+    {"status_seal", "status"},  {"status_edit", "status"},  {"status_right", "status"}, {"status_read", "status"},
+    {"aes3_write", "samples"},
     {"aes3_write", "side"},     {"aes3_write", "line"},     {"aes3_read", "line"},     {"aes3_read", "samples"},
     {"biphase_table", "table"},
     {"aes3_read", "side"},      {"aes3_find", "line"},      {"madi_write", "words"},   {"madi_write", "line"},

@@ -138,6 +138,23 @@ second_verdict second_status_seal(uint8_t *status, size_t status_len)
     return r;
 }
 
+/* One byte set anew, and all 184 bits gone through again. */
+second_verdict second_status_edit(uint8_t *status, size_t status_len, uint32_t byte, uint32_t value)
+{
+    second_verdict r = {0, 0};
+    if (status_len != 24)
+        r.number = 1;
+    else if (byte > 22 || value > 255)
+        r.number = 2;
+    else if (!second_crcc_right(status))
+        r.number = 5;
+    else {
+        status[byte] = (uint8_t)value;
+        status[23] = crcc_octet(status);
+    }
+    return r;
+}
+
 second_status_check second_status_right(const uint8_t *status, size_t status_len)
 {
     second_status_check r = {0, 0, 0};

@@ -46,6 +46,7 @@ second_body second_body_write(int32_t sample, uint32_t v, uint32_t u, uint32_t c
 second_body_meaning second_body_read(uint32_t body);
 
 second_verdict second_status_seal(uint8_t *status, size_t status_len);
+second_verdict second_status_edit(uint8_t *status, size_t status_len, uint32_t byte, uint32_t value);
 second_status_check second_status_right(const uint8_t *status, size_t status_len);
 second_status_meaning second_status_read(const uint8_t *status, size_t status_len);
 second_crcc second_crcc_start(void);

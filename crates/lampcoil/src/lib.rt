@@ -7,6 +7,7 @@ ghost use lib.ListN.{length};
 ghost use Rattle.answer.specs.Answer.{Answer.accepted, mapped, verdict, after, rewritten};
 ghost use Rattle.subframe.specs.Body.{bodyWritten, bodyRead};
 ghost use Rattle.codes.specs.Crcc.{stagesFed, stagesSent, sealAnswer, sealed};
+ghost use Rattle.codes.specs.Edit.{editAnswer, edited};
 ghost use Rattle.codes.specs.Lane.{repaired};
 ghost use Rattle.line.specs.Biphase.{tableLaid};
 ghost use Rattle.block.specs.Block.{samplesOf, sideOf};
@@ -160,6 +161,15 @@ pub extern "C" fn lampcoil_status_seal(status: &mut [u8]) -> Told
     ensures { λ _. ⌜ now (status .exit) ≡ sealed (now (status .entry)) ⌝ }
 {
     answers::verdict(codes::seal(status))
+}
+
+// Writes one byte, of 0 to 22, of 24 octets of status whose CRCC is right, and byte 23 after it.
+#[no_mangle]
+pub extern "C" fn lampcoil_status_edit(status: &mut [u8], byte: u32, value: u32) -> Told
+    ensures { λ r. ⌜ r ≡ toldVerdict (verdict (editAnswer (now (status .entry)) byte value)) ⌝ }
+    ensures { λ _. ⌜ now (status .exit) ≡ edited (now (status .entry)) byte value ⌝ }
+{
+    answers::verdict(codes::status_edit(status, byte, value))
 }
 
 // Whether the CRCC of 24 octets of status is right.
