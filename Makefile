@@ -18,7 +18,7 @@
 .NOTPARALLEL:
 .PHONY: report test read alone proofs edits boundary lib program install uninstall bench expected mutants promises clean header second \
 	held hand listed compare card installed
-.PHONY: tried shared
+.PHONY: tried shared failing
 
 PREFIX = /usr/local
 DESTDIR =
@@ -105,7 +105,7 @@ proofs:
 edits:
 	tests/edits
 
-boundary: lib listed compare card installed
+boundary: lib listed compare card failing installed
 
 promises:
 	@mkdir -p build
@@ -176,6 +176,10 @@ card: $(ARCHIVE)
 	$(X86) cc $(CFLAGS) $(INCLUDES) -o build/card examples/card.c $(ARCHIVE)
 	$(X86) run build/card >build/card.txt
 	cmp build/card.txt examples/card.expected
+
+# The report program where its output cannot be written or its input not be read.
+failing: program
+	tests/failing target/bin/carrier_report carrier_report 'carrier report 1' 'records 0'
 
 mutants:
 	CC="$(CC)" JOBS=$(JOBS) tests/compare/mutants

@@ -92,15 +92,6 @@ static int receive_block(const uint8_t *block, memory *m)
     return 0;
 }
 
-/* Symbols from a place on, into octets of their own: a start that is found is in general not a multiple of eight. */
-static void align(const uint8_t *taken, uint32_t position, uint8_t block[LAMPCOIL_BLOCK_OCTETS])
-{
-    const uint8_t *from = taken + position / 8;
-    uint32_t late = position % 8;
-    for (size_t k = 0; k < LAMPCOIL_BLOCK_OCTETS; k++)
-        block[k] = (uint8_t)(from[k] << late | (late == 0 ? 0 : from[k + 1] >> (8 - late)));
-}
-
 /* The card takes in symbols from anywhere: here 21 of them before the block, the last as the level before it. */
 static int find_block(memory *m)
 {
@@ -113,7 +104,9 @@ static int find_block(memory *m)
     lampcoil_aes3_start s = lampcoil_aes3_find(taken, sizeof taken);
     if (REFUSED("aes3 find", s))
         return 1;
-    align(taken, s.position, block);
+    lampcoil_verdict v = lampcoil_aes3_align(taken, sizeof taken, s.position, block, LAMPCOIL_BLOCK_OCTETS);
+    if (REFUSED("aes3 align", v))
+        return 1;
     printf("  aes3: the block starts at symbol %u, %u symbols compared\n", s.position, s.compared);
     return receive_block(block, m);
 }

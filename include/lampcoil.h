@@ -30,9 +30,9 @@ extern "C" {
 #endif
 
 /* The version of this header and of the library beside it. A larger MAJOR may take something away; MINOR adds. */
-#define LAMPCOIL_VERSION "2.1.0"
+#define LAMPCOIL_VERSION "2.2.0"
 #define LAMPCOIL_VERSION_MAJOR 2
-#define LAMPCOIL_VERSION_MINOR 1
+#define LAMPCOIL_VERSION_MINOR 2
 #define LAMPCOIL_VERSION_PATCH 0
 
 /* Numbers that come back, and what their place is; lampcoil_refusal_text tells when each is given. */
@@ -249,8 +249,8 @@ lampcoil_aes3_read_answer lampcoil_aes3_read(const uint8_t *line, size_t line_le
 
 /* The first place of a line, counted in symbols from its highest bit, at which a block starts: preamble Z, and Y 64
    symbols later. Places run from 1, since a preamble is judged by the symbol before it, to 72 before the end. A start
-   is in general not a multiple of eight: the block stands across octets there, and is to be shifted into octets of its
-   own before aes3_read takes it.
+   is in general not a multiple of eight: the block stands across octets there, and aes3_align brings it into octets of
+   its own, which aes3_read takes.
    `compared` is the number of symbols that the search compares, and stands beside NO_START too: a place costs its
    sixteen required symbols up to and including the first that differs, or 16 if it fits, and `compared` is the sum over
    the places from 1 to the answer, or over all. It is at most 16 times the number of places, and 0 with LENGTH and in
@@ -258,6 +258,13 @@ lampcoil_aes3_read_answer lampcoil_aes3_read(const uint8_t *line, size_t line_le
    Order: LENGTH (above 8,192 octets), NO_START. */
 typedef struct { uint32_t number, place, position, compared; } lampcoil_aes3_start;
 lampcoil_aes3_start lampcoil_aes3_find(const uint8_t *line, size_t line_len);
+
+/* Copies LAMPCOIL_BLOCK_OCTETS octets of symbols, from a position counted as aes3_find counts it; 0 is a position too.
+   What was aligned at a start that aes3_find gave is read as the line is there: the level that aes3_read takes as the
+   one before is then the symbol that stands before the start.
+   Order: LENGTH (a block of another length, a line above 8,192 octets), RANGE (fewer symbols than a block has, from the
+   position on). */
+lampcoil_verdict lampcoil_aes3_align(const uint8_t *line, size_t line_len, uint32_t position, uint8_t *block, size_t block_len);
 
 /* ---- MADI: a frame of 56 or 64 channels of 40 line bits, then sync symbols of ten. ---- */
 

@@ -274,6 +274,29 @@ static void test_compared(void)
     expect(s.number == 17 && s.position == 0 && s.compared == 7 + 9, "one whose first symbol of Y differs costs 9");
 }
 
+/* A block behind three symbols, found at 3 and read from there. */
+static void test_aligned(void)
+{
+    static int32_t samples[384], back[384];
+    static uint8_t side[144], side_back[144], line[3072], shifted[3073], block[3072];
+    quiet_block(samples, side);
+    lampcoil_aes3_write(samples, 384, side, 144, 0, line, 3072);
+    for (size_t k = 0; k < 3072; k++) {
+        shifted[k] = (uint8_t)(shifted[k] | line[k] >> 3);
+        shifted[k + 1] = (uint8_t)(line[k] << 5);
+    }
+    lampcoil_aes3_start s = lampcoil_aes3_find(shifted, 3073);
+    expect(s.number == 0 && s.position == 3, "found at symbol 3");
+    lampcoil_verdict v = lampcoil_aes3_align(shifted, 3073, 3, block, 3072);
+    expect(v.number == 0 && v.place == 0 && memcmp(block, line, 3072) == 0, "aligned is the block that was written");
+    lampcoil_aes3_read_answer r = lampcoil_aes3_read(block, 3072, back, 384, side_back, 144);
+    expect(r.number == 0 && memcmp(back, samples, sizeof back) == 0, "and is read");
+    v = lampcoil_aes3_align(shifted, 3073, 8, block, 3072);
+    expect(v.number == 0, "the last position");
+    v = lampcoil_aes3_align(shifted, 3073, 9, block, 3072);
+    expect(v.number == 2 && v.place == 0, "a symbol too few");
+}
+
 int main(void)
 {
     test_bodies();
@@ -286,6 +309,7 @@ int main(void)
     test_madi();
     test_madi_counts();
     test_compared();
+    test_aligned();
     printf("listed: %d passed, %d failed\n", passed, failed);
     return failed != 0;
 }

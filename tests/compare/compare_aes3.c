@@ -216,6 +216,37 @@ static void false_z(size_t n)
     }
 }
 
+/* A line of n octets, from a position on, into a block of so many. */
+static void align_from(size_t n, uint32_t position, size_t octets)
+{
+    random_octets(stretch, n < sizeof stretch ? n : sizeof stretch);
+    begin("aes3_align");
+    lent in = lend_in("line", stretch, n, 1);
+    lent out = lend_out("block", octets, 1);
+    lampcoil_verdict a = lampcoil_aes3_align(in.library, in.elements, position, out.library, out.elements);
+    second_verdict b = second_aes3_align(in.second, in.elements, position, out.second, out.elements);
+    END(a, b);
+}
+
+static void aes3_align(void)
+{
+    size_t n = once_in(8) ? 3068 + below(8) : 3072 + below(5121);
+    uint32_t last = n < 3072 ? 0 : (uint32_t)(8 * n) - 24576;
+    uint32_t position = once_in(4) ? last : once_in(8) ? last + 1 + below(9) : once_in(8) ? draw() : below(last + 1);
+    align_from(n, position, once_in(16) ? 3071 + 2 * below(2) : 3072);
+}
+
+/* Every position of a line that is some octets longer than a block, and some past the last. */
+static void every_position(void)
+{
+    for (uint32_t p = 0; p < 8 * 5 + 12; p++)
+        align_from(3077, p, 3072);
+    for (size_t n = 8190; n < 8195; n++)
+        align_from(n, 8191 * 8 - 24576, 3072);
+    align_from(3072, UINT32_MAX, 3072); /* a sum that would wrap in 32 bits */
+    align_from(3072, UINT32_MAX - 24575, 3072);
+}
+
 static void aes3_find_in_some(void)
 {
     aes3_find(9 + below(120));
@@ -223,7 +254,7 @@ static void aes3_find_in_some(void)
 
 void compare_aes3(uint32_t cases)
 {
-    static const int of_write[] = {0, 1, 2, 3, 4, 5, 6, -1}, of_read[] = {0, 1, 7, 8, 9, -1}, of_find[] = {0, 1, 17, -1};
+    static const int of_write[] = {0, 1, 2, 3, 4, 5, 6, -1}, of_read[] = {0, 1, 7, 8, 9, -1}, of_find[] = {0, 1, 17, -1}, of_align[] = {0, 1, 2, -1};
     static const int of_table[] = {0, 1, -1};
     for (uint32_t k = 0; k < cases; k += 16) {
         aes3_write();
@@ -244,6 +275,11 @@ void compare_aes3(uint32_t cases)
         false_z(n);
     for (size_t n = 8189; n < 8196; n++)
         aes3_find(n);
+    every_position();
+    for (uint32_t k = 0; k < cases; k += 32)
+        aes3_align();
+    at_the_edges(aes3_align);
+    must_have_seen("aes3_align", of_align);
     at_the_edges(aes3_write);
     at_the_edges(aes3_read);
     at_the_edges(aes3_find_in_some);

@@ -16,7 +16,8 @@ static const struct { const char *entry, *argument; } slices[] = {
     {"aes3_write", "samples"},
     {"aes3_write", "side"},     {"aes3_write", "line"},     {"aes3_read", "line"},     {"aes3_read", "samples"},
     {"biphase_table", "table"},
-    {"aes3_read", "side"},      {"aes3_find", "line"},      {"madi_write", "words"},   {"madi_write", "line"},
+    {"aes3_read", "side"},      {"aes3_find", "line"},      {"aes3_align", "line"},
+    {"aes3_align", "block"},    {"madi_write", "words"},   {"madi_write", "line"},
     {"madi_read", "line"},      {"madi_read", "words"},     {"hd_write", "bodies"},    {"hd_write", "words"},
     {"hd_read", "words"},       {"hd_read", "bodies"},      {"hd_repair", "words"},    {"hd_repair", "repaired"},
 };

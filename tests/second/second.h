@@ -59,6 +59,7 @@ second_verdict second_biphase_table(uint16_t *table, size_t table_len);
 second_aes3_read_answer second_aes3_read(const uint8_t *line, size_t line_len, int32_t *samples, size_t samples_len, uint8_t *side,
                                          size_t side_len);
 second_aes3_start second_aes3_find(const uint8_t *line, size_t line_len);
+second_verdict second_aes3_align(const uint8_t *line, size_t line_len, uint32_t position, uint8_t *block, size_t block_len);
 
 second_verdict second_madi_write(uint32_t channels, const uint32_t *words, size_t words_len, uint32_t syncs, uint32_t level,
                                  uint8_t *line, size_t line_len);

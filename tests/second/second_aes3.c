@@ -227,3 +227,19 @@ second_aes3_start second_aes3_find(const uint8_t *line, size_t line_len)
     r.compared = costs(line, symbols - 72);
     return r;
 }
+
+/* Symbol by symbol: the block's symbol k is the line's symbol position + k. */
+second_verdict second_aes3_align(const uint8_t *line, size_t line_len, uint32_t position, uint8_t *block, size_t block_len)
+{
+    const second_verdict aligned = {0, 0};
+    if (block_len != LINE || line_len > 8192)
+        return refused(1, 0);
+    if (8 * (uint64_t)line_len < (uint64_t)position + 8 * LINE)
+        return refused(2, 0);
+    for (uint32_t k = 0; k < 8 * LINE; k++) {
+        uint32_t from = position + k;
+        uint32_t symbol = line[from / 8] >> (7 - from % 8) & 1u;
+        block[k / 8] = (uint8_t)((block[k / 8] & ~(0x80u >> k % 8)) | symbol << (7 - k % 8));
+    }
+    return aligned;
+}

@@ -1,1 +1,2 @@
 pub mod BlockTrips
+pub mod FoundStart

@@ -1,15 +1,20 @@
 // The hunt for a block start in a line that is not aligned to octets: an outer loop over the candidates, an inner one
 // over the sixteen required symbols, which leaves a candidate at its first symbol that differs. The symbols compared
-// are counted.
+// are counted. And the block that was found, brought to octets.
 ghost use mathlib.Core.Path.{_≡_};
 ghost use Prim.Native.Nat.{_+_, _*_, _≤_};
 ghost use lib.ListN.{length};
 ghost use Rattle.bits.specs.Window.{window};
 ghost use Rattle.bits.specs.Pack.{symbols};
+ghost use Rattle.answer.specs.Answer.{verdict, rewritten};
+ghost use Rattle.answer.specs.Said.{verdictSaid};
+ghost use Rattle.aes3_hunt.specs.Align.{aligned};
 ghost use Rattle.aes3_hunt.specs.Hunt.{boundedHunt};
 ghost use Rattle.aes3_hunt.specs.Inner.{differences};
 ghost use Rattle.aes3_hunt.specs.Said.{huntSaid};
 use answer::NumberAnswer;
+use answer::Verdict;
+use line::load;
 
 // Where a block starts, or a refusal; and how many symbols were compared, found or not.
 pub struct HuntAnswer {
@@ -88,4 +93,37 @@ pub fn find_start(line: &[u8]) -> HuntAnswer
         },
         compared,
     }
+}
+
+// Copies the 3,072 octets of symbols from a position on: refusal 1 for another room than that and for a line of more
+// than 8,192 octets, 2 where fewer symbols are left. A refusal leaves the block as it was.
+pub fn align(line: &[u8], position: u32, block: &mut [u8]) -> Verdict
+    ensures { λ r. ⌜ verdictSaid r ≡ verdict (aligned (now (line .entry)) position (length (now (block .entry)))) ⌝ }
+    ensures { λ _. ⌜ now (block .exit) ≡ rewritten (aligned (now (line .entry)) position (length (now (block .entry)))) (now (block .entry)) ⌝ }
+{
+    if block.len() != 3072 {
+        return Verdict::Refused {
+            number: 1,
+            place: 0,
+        };
+    }
+    if 8192 < line.len() {
+        return Verdict::Refused {
+            number: 1,
+            place: 0,
+        };
+    }
+    let from = position as usize;
+    if line.len() * 8 < from + 24576 {
+        return Verdict::Refused {
+            number: 2,
+            place: 0,
+        };
+    }
+    let mut j = 0;
+    while j < 3072 {
+        block[j] = load(line, from + j * 8, 8) as u8;
+        j += 1;
+    }
+    Verdict::Accepted
 }

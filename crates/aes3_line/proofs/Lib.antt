@@ -3,3 +3,4 @@ pub mod LineLaws
 pub mod Polarity
 pub mod LineTrips
 pub mod Turns
+pub mod Position

@@ -1,2 +1,3 @@
 pub mod Subframe
 pub mod Line
+pub mod Position

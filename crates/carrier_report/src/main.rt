@@ -12,24 +12,43 @@ fn no_octets() -> [u8; 8192]
     [0; 8192]
 }
 
-// Reads until buf is full or the input ends, and answers how many octets it put at the start of buf; with no call for
-// none.
+// Says on standard error that the input could not be read. There is nowhere to say that this failed.
+fn tell_failure() {
+    io::write_all(2, b"carrier_report: reading failed\n");
+}
+
+// Reads until buf is full, the input ends or a read fails, and answers how many octets it put at the start of buf; with
+// no call for none. A failure is told, and is then as an end of the input.
 fn read(buf: &mut [u8]) -> usize
     ensures { λ r. ⌜ Counts r (now (buf .exit)) ⌝ }
 {
-    if buf.len() == 0 {
-        return 0;
+    let mut done = 0;
+    while done < buf.len() {
+        let rest = &mut buf[done..];
+        let got = libc::read(0, rest);
+        if got < 0 {
+            tell_failure();
+            return done;
+        }
+        let more = io::count(got, rest);
+        if more == 0 {
+            return done;
+        }
+        done += more;
     }
-    io::read_full(0, buf)
+    done
 }
 
-// Each turn but the last counts a record, and the count cannot grow for ever.
+// Each turn but the last counts a record, and the count cannot grow for ever. A write that fails ends the program:
+// nothing more is read for a report that nobody gets.
 fn main() {
     let mut head = [0u8; 4];
     let mut body = no_octets();
     let mut out = [0u8; 128];
     let start = report::begin(&mut out);
-    io::write_all(1, &out[start..]);
+    if !io::write_all(1, &out[start..]) {
+        return;
+    }
     let mut n: u64 = 0;
     loop {
         let got = read(&mut head);
@@ -37,7 +56,9 @@ fn main() {
         let had = read(&mut body[..size]);
         let step = report::print(n, &head[..got], &body[..had], &mut out);
         let from = step.from;
-        io::write_all(1, &out[from..]);
+        if !io::write_all(1, &out[from..]) {
+            return;
+        }
         if step.last {
             return;
         }

@@ -14,6 +14,7 @@ ghost use Rattle.block.specs.Block.{samplesOf, sideOf};
 ghost use Rattle.aes3_write.specs.Writer.{writeAnswer};
 ghost use Rattle.aes3_read.specs.Reader.{readAnswer, crccs};
 ghost use Rattle.aes3_hunt.specs.Hunt.{boundedHunt};
+ghost use Rattle.aes3_hunt.specs.Align.{aligned};
 ghost use Rattle.madi_write.specs.Writer.{frameWritten};
 ghost use Rattle.madi_read.specs.Reader.{frameRead, countsOf, wordsOf};
 ghost use Rattle.hd_write.specs.Write.{wordsWritten};
@@ -289,6 +290,15 @@ pub extern "C" fn lampcoil_aes3_find(line: &[u8]) -> ToldStart
     ensures { λ r. ⌜ r ≡ toldStart (boundedHunt (now (line .entry))) ⌝ }
 {
     answers::start(aes3_hunt::find_start(line))
+}
+
+// The 3,072 octets of symbols that begin at a position, so that the block which the hunt found can be read.
+#[no_mangle]
+pub extern "C" fn lampcoil_aes3_align(line: &[u8], position: u32, block: &mut [u8]) -> Told
+    ensures { λ r. ⌜ r ≡ toldVerdict (verdict (aligned (now (line .entry)) position (length (now (block .entry))))) ⌝ }
+    ensures { λ _. ⌜ now (block .exit) ≡ rewritten (aligned (now (line .entry)) position (length (now (block .entry)))) (now (block .entry)) ⌝ }
+{
+    answers::verdict(aes3_hunt::align(line, position, block))
 }
 
 // ---- MADI

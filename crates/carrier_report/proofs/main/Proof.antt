@@ -15,17 +15,17 @@ use borrow.Author.Needs.{needs}
 use Rattle.carrier_report.proofs.main.Statement.{statement}
 use Rattle.carrier_report.proofs.main.Tie as tie
 
-fits : (head : List ℕ) {size : ℕ} → size ≡ bodySize head → size ≤ 8192
-fits head e = omega (arith, e, read-fits head)
-
-longer : (a b : List ℕ) {n : ℕ} → n ≤ length a → n ≤ length (a ++ b)
-longer a b h = omega (arith, length-append a b)
-
 abbrev Inv-loop : tie.InvT-loop
 Inv-loop head₀ body₀ out₀ start n₀ head body out n = (length head ≡ 4) × (length body ≡ 8192) × (length out ≡ 128) × (n ≤ 18446744073709551615)
 
 abbrev μ-loop : tie.MeasureT-loop
 μ-loop head₀ body₀ out₀ start n₀ head body out n = 18446744073709551615 - n
+
+fits : (head : List ℕ) {size : ℕ} → size ≡ bodySize head → size ≤ 8192
+fits head e = omega (arith, e, read-fits head)
+
+longer : (a b : List ℕ) {n : ℕ} → n ≤ length a → n ≤ length (a ++ b)
+longer a b h = omega (arith, length-append a b)
 
 no-octets-requires : tie.Need-no-octets-requires Inv-loop μ-loop
 no-octets-requires c κs = search needs
@@ -45,8 +45,11 @@ part-write-all-end c = omega (arith, heading-size _ (search needs) (c .before .b
 write-all-requires : tie.Need-write-all-requires Inv-loop μ-loop
 write-all-requires c κs = search needs
 
+returns : tie.Need-returns Inv-loop μ-loop
+returns c = search needs
+
 loop-holds : tie.Need-loop-holds Inv-loop μ-loop
-loop-holds c = (search needs, search needs, heading-size _ (search needs) (c .before .before .before .begin .ensures .1), search needs)
+loop-holds c = (search needs, search needs, heading-size _ (search needs) (c .before .before .before .before .begin .ensures .1), search needs)
 
 slice-aggregate-read : tie.Need-slice-aggregate-read Inv-loop μ-loop
 slice-aggregate-read c = search needs
@@ -107,17 +110,22 @@ part-write-all-end-2 c =
 write-all-requires-2 : tie.Need-write-all-requires-2 Inv-loop μ-loop
 write-all-requires-2 c κs = search needs
 
-returns : tie.Need-returns Inv-loop μ-loop
-returns c = search needs
+-- src/main.rt:60:13
+returns-2 : tie.Need-returns-2 Inv-loop μ-loop
+returns-2 c = search needs
+
+-- src/main.rt:63:13
+returns-3 : tie.Need-returns-3 Inv-loop μ-loop
+returns-3 c = search needs
 
 loop-less : tie.Need-loop-less Inv-loop μ-loop
 loop-less c =
-    let t = c .before .before .before .before in
-    omega (arith, step-counts _ _ _ (t .print .ensures .0) (c .if1 .left))
+    let t = c .before .before .before .before .before in
+    omega (arith, step-counts _ _ _ (t .print .ensures .0) (c .if3 .left))
 
 loop-again : tie.Need-loop-again Inv-loop μ-loop
 loop-again c =
-    let t = c .before .before .before .before in
+    let t = c .before .before .before .before .before in
     let r = t .before .before .before .before .before in
     let z = r .before .before in
     let l = z .before .before .before .before .before .loop in
@@ -140,6 +148,7 @@ main-spec =
     part-write-all-start
     part-write-all-end
     write-all-requires
+    returns
     loop-holds
     slice-aggregate-read
     read-requires
@@ -158,6 +167,7 @@ main-spec =
     part-write-all-start-2
     part-write-all-end-2
     write-all-requires-2
-    returns
+    returns-2
+    returns-3
     loop-less
     loop-again)
