@@ -10,8 +10,8 @@
 
 enum { ROUNDS = 41, HUNTED = 8192, SYNCS = 26 };
 
-static int32_t samples[384], back_samples[384];
-static uint8_t side[144], back_side[144], line[3072], back_line[3072], hunted[HUNTED];
+static int32_t samples[384], bound_samples[384], back_samples[384];
+static uint8_t side[144], bound_side[144], back_side[144], line[3072], back_line[3072], hunted[HUNTED];
 static uint32_t words[64], back_words[64], bodies[4], back_bodies[4];
 static uint8_t madi[LAMPCOIL_MADI_OCTETS(64, SYNCS)], back_madi[LAMPCOIL_MADI_OCTETS(64, SYNCS)];
 static uint16_t packet[31], damaged[31], back_packet[31];
@@ -50,6 +50,7 @@ enum { MOST_ANSWER = 128, MOST_FILLED = 4096 };
     PROGRAM(by_hand_##name, type, hand_##entry arguments)
 
 BOTH(aes3_write, lampcoil_verdict, aes3_write, (samples, 384, side, 144, 0, back_line, 3072))
+BOTH(aes3_write_bound, lampcoil_verdict, aes3_write, (bound_samples, 384, bound_side, 144, 0, back_line, 3072))
 BOTH(aes3_read, lampcoil_aes3_read_answer, aes3_read, (line, 3072, back_samples, 384, back_side, 144))
 BOTH(find, lampcoil_aes3_start, aes3_find, (hunted, HUNTED))
 BOTH(madi_write, lampcoil_verdict, madi_write, (64, words, 64, SYNCS, 0, back_madi, sizeof back_madi))
@@ -121,8 +122,16 @@ static void prepare_carriers(void)
         side[k] = (uint8_t)draw();
     for (int c = 0; c < 2; c++) {
         side[72 * c + 48] = 0x85;
+        side[72 * c + 50] = 0;
         lampcoil_status_seal(side + 72 * c + 48, 24);
     }
+    memcpy(bound_side, side, sizeof side);
+    for (int c = 0; c < 2; c++) { /* words of 20 bits with 24-bit use, and of 16 bits with 20-bit use */
+        bound_side[72 * c + 50] = c == 0 ? 0x0C : 0x08;
+        lampcoil_status_seal(bound_side + 72 * c + 48, 24);
+    }
+    for (int k = 0; k < 384; k++)
+        bound_samples[k] = samples[k] & ~(k % 2 == 0 ? 0x0F : 0xF0);
     for (int k = 0; k < 64; k++) {
         int32_t sample = (int32_t)(draw() & 0xFFFFFF) - 8388608;
         uint32_t flags = draw();
@@ -214,7 +223,9 @@ static void measure(const operation *o)
 #define FILLS(buffer) {buffer, sizeof buffer}
 
 static const operation all[] = {
-    {"AES3 write, a block", &library_aes3_write, &by_hand_aes3_write, nothing, 3072, {FILLS(back_line)}},
+    {"AES3 write, a block with declared word lengths", &library_aes3_write_bound, &by_hand_aes3_write_bound, nothing, 3072,
+     {FILLS(back_line)}},
+    {"AES3 write, a block with none declared", &library_aes3_write, &by_hand_aes3_write, nothing, 3072, {FILLS(back_line)}},
     {"AES3 read, a block", &library_aes3_read, &by_hand_aes3_read, nothing, 3072, {FILLS(back_samples), FILLS(back_side)}},
     {"hunt, 8,192 octets at random, no start; C 64 symbols at once", &library_find, &by_hand_find, hunt_noise, HUNTED, {{0}}},
     {"the same; C candidate by candidate", &library_find, &by_hand_by_candidate, hunt_noise, HUNTED, {{0}}},

@@ -65,6 +65,29 @@ static inline lampcoil_verdict verdict(uint32_t number, uint32_t place)
     return v;
 }
 
+/* The bits of a channel's samples that must be 0 under bytes 0 to 2 of its status: 20-bit use has them four bits up. */
+static uint32_t bound_bits(const uint8_t *status)
+{
+    static const uint8_t unused[8] = {0, 4, 2, 0, 1, 0, 3, 0}; /* by bits 3 to 5 */
+    uint32_t use = status[2] & 7, bits = (1u << unused[status[2] >> 3 & 7]) - 1;
+    if ((status[0] & 2) != 0 || (use & 1) != 0 || use == 6)
+        return 0;
+    return use == 4 ? bits : bits << 4;
+}
+
+static uint32_t first_busy(const int32_t *samples, uint32_t a, uint32_t b)
+{
+    uint32_t busy = 0, k = 0;
+    if ((a | b) == 0)
+        return 384;
+    for (; k < 384; k += 2)
+        busy |= ((uint32_t)samples[k] & a) | ((uint32_t)samples[k + 1] & b);
+    for (k = busy != 0 ? 0 : 384; k < 384; k++)
+        if (((uint32_t)samples[k] & (k % 2 == 0 ? a : b)) != 0)
+            break;
+    return k;
+}
+
 static lampcoil_verdict judge(const int32_t *samples, const uint8_t *side)
 {
     uint32_t outside = 0;
@@ -83,6 +106,9 @@ static lampcoil_verdict judge(const int32_t *samples, const uint8_t *side)
     for (uint32_t c = 0; c < 2; c++)
         if ((side[72 * c + 48] & 2) != 0 && !all_ones(side + 72 * c))
             return verdict(6, c);
+    uint32_t k = first_busy(samples, bound_bits(side + 48), bound_bits(side + 120));
+    if (k < 384)
+        return verdict(18, k);
     return verdict(0, 0);
 }
 

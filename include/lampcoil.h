@@ -30,9 +30,9 @@ extern "C" {
 #endif
 
 /* The version of this header and of the library beside it. A larger MAJOR may take something away; MINOR adds. */
-#define LAMPCOIL_VERSION "2.2.0"
+#define LAMPCOIL_VERSION "2.3.0"
 #define LAMPCOIL_VERSION_MAJOR 2
-#define LAMPCOIL_VERSION_MINOR 2
+#define LAMPCOIL_VERSION_MINOR 3
 #define LAMPCOIL_VERSION_PATCH 0
 
 /* Numbers that come back, and what their place is; lampcoil_refusal_text tells when each is given. */
@@ -54,6 +54,7 @@ extern "C" {
 #define LAMPCOIL_REFUSED_LANE 15u        /* place: lane; at lane_repair 0 */
 #define LAMPCOIL_REFUSED_CHECKSUM 16u    /* place: 30 */
 #define LAMPCOIL_REFUSED_NO_START 17u
+#define LAMPCOIL_REFUSED_WORD_LENGTH 18u /* place: sample index */
 
 /* When a number is given, in words; never null. */
 static inline const char *lampcoil_refusal_text(uint32_t number)
@@ -77,6 +78,7 @@ static inline const char *lampcoil_refusal_text(uint32_t number)
         "a lane fails its code; in repair, no satisfying lane within one place",
         "the last packet word is wrong",
         "the search finds no block start",
+        "writer: a sample has a 1 below the word length that its channel's status declares",
     };
     return number < sizeof texts / sizeof texts[0] ? texts[number] : "not a number of this library";
 }
@@ -227,7 +229,11 @@ lampcoil_status_meaning lampcoil_status_read(const uint8_t *status, size_t statu
    subframe, the earliest symbol in the highest bit. ---- */
 
 /* Writes the whole line after the given level, 0 or 1.
-   Order: LENGTH (each of the three), RANGE (level), SAMPLE, CONSUMER, CRCC, VALIDITY, each over all its places. */
+   Order: LENGTH (each of the three), RANGE (level), SAMPLE, CONSUMER, CRCC, VALIDITY, WORD_LENGTH, each over all its
+   places. Status byte 2 binds a channel's samples where it declares a length: of n bits with 24-bit use (auxiliary bits
+   for the main audio), so that a sample's lowest 24 - n bits are 0; of n bits with 20-bit use (undefined, or
+   coordination), so that bits 4 to 23 - n are 0 and bits 0 to 3 are free. No length, a reserved or user-defined state,
+   and audio for another purpose (byte 0 bit 1) bind nothing. */
 lampcoil_verdict lampcoil_aes3_write(const int32_t *samples, size_t samples_len,
                                      const uint8_t *side, size_t side_len,
                                      uint32_t level, uint8_t *line, size_t line_len);

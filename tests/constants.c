@@ -71,6 +71,21 @@ static void test_block_lengths(void)
     EXPECT(table[0] == 0xCCCC && table[1] == 0xB333 && table[128] == 0xCCCD && table[255] == 0xAAAA);
 }
 
+/* 24-bit use with words of 20 bits, declared for B alone; left as quiet, with that label. */
+static void test_word_length(void)
+{
+    const size_t n = LAMPCOIL_BLOCK_SAMPLES, s = LAMPCOIL_SIDE_OCTETS, m = LAMPCOIL_BLOCK_OCTETS;
+    quiet();
+    side[LAMPCOIL_SIDE_C_B + 2] = 0x0C;
+    lampcoil_status_seal(side + LAMPCOIL_SIDE_C_B, LAMPCOIL_STATUS_OCTETS);
+    samples[0] = samples[2] = 1;
+    GIVES(write_block(n, s, m), LAMPCOIL_ACCEPTED);
+    samples[3] = 8;
+    GIVES(write_block(n, s, m), LAMPCOIL_REFUSED_WORD_LENGTH);
+    EXPECT(write_block(n, s, m).place == 3);
+    samples[3] = 16;
+}
+
 /* What the AES3 writer and reader refuse. */
 static void test_block_refusals(void)
 {
@@ -90,6 +105,8 @@ static void test_block_refusals(void)
     lampcoil_status_seal(side + LAMPCOIL_SIDE_C_A, LAMPCOIL_STATUS_OCTETS);
     GIVES(write_block(n, s, m), LAMPCOIL_REFUSED_VALIDITY);
     memset(side + LAMPCOIL_SIDE_V_A, 0xFF, 24);
+    GIVES(write_block(n, s, m), LAMPCOIL_ACCEPTED);
+    test_word_length();
     GIVES(write_block(n, s, m), LAMPCOIL_ACCEPTED);
     line[8] ^= 0x10;
     GIVES(read_block(), LAMPCOIL_REFUSED_PREAMBLE);
@@ -232,8 +249,8 @@ static void test_status(void)
 /* Each number has a text of its own, and no other number has one. */
 static void test_texts(void)
 {
-    const char *none = lampcoil_refusal_text(LAMPCOIL_REFUSED_NO_START + 1);
-    for (uint32_t k = LAMPCOIL_ACCEPTED; k <= LAMPCOIL_REFUSED_NO_START; k++) {
+    const char *none = lampcoil_refusal_text(LAMPCOIL_REFUSED_WORD_LENGTH + 1);
+    for (uint32_t k = LAMPCOIL_ACCEPTED; k <= LAMPCOIL_REFUSED_WORD_LENGTH; k++) {
         EXPECT(strcmp(lampcoil_refusal_text(k), none) != 0);
         for (uint32_t j = LAMPCOIL_ACCEPTED; j < k; j++)
             EXPECT(strcmp(lampcoil_refusal_text(k), lampcoil_refusal_text(j)) != 0);

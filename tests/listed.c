@@ -109,6 +109,40 @@ static void test_under_z(void)
     expect(v.number == 3 && v.place == 383, "sample 8,388,608 in a block");
 }
 
+/* The write of silence but for one sample, under bytes 0 and 2 for both channels and every V set. */
+static lampcoil_verdict declared(uint8_t byte0, uint8_t byte2, uint32_t at, int32_t sample)
+{
+    int32_t samples[384];
+    uint8_t side[144], line[3072];
+    quiet_block(samples, side);
+    memset(side, 0xFF, 24);
+    memset(side + 72, 0xFF, 24);
+    for (int channel = 0; channel < 2; channel++) {
+        side[72 * channel + 48] = byte0;
+        side[72 * channel + 50] = byte2;
+        lampcoil_status_seal(side + 72 * channel + 48, 24);
+    }
+    samples[at] = sample;
+    return lampcoil_aes3_write(samples, 384, side, 144, 0, line, 3072);
+}
+
+/* Byte 2 in the tables' order, bits 5 4 3, then 2 1 0: 001 100 is 20 bits with 24-bit use, 001 000 is 16 with 20-bit
+   use. */
+static void test_word_length(void)
+{
+    lampcoil_verdict v = declared(1, 0x0C, 7, 8);
+    expect(v.number == 18 && v.place == 7, "24 busy bits under a status that says 20");
+    expect(declared(1, 0x0C, 7, 16).number == 0, "20 bits under a status that says 20");
+    expect(declared(1, 0x04, 7, 1).number == 0, "an undeclared length allows all 24");
+    expect(declared(1, 0x1C, 7, 1).number == 0, "a reserved state binds nothing");
+    expect(declared(1, 0x0E, 7, 1).number == 0, "a user-defined state binds nothing");
+    expect(declared(3, 0x0C, 7, 1).number == 0, "other-purpose audio is not bound");
+    expect(declared(1, 0x08, 7, 15).number == 0, "with 20-bit use slots 4 to 7 are free");
+    v = declared(1, 0x08, 8, 16);
+    expect(v.number == 18 && v.place == 8, "with 20-bit use slot 8 is bound under 16 bits");
+    expect(declared(1, 0x0A, 8, 128).number == 18 && declared(1, 0x08, 8, 256).number == 0, "slot 11 is, slot 12 is not");
+}
+
 static void test_status(void)
 {
     uint8_t one[24] = {0x3D, 0x02, 0, 0, 0x02}, two[24] = {0x01};
@@ -302,6 +336,7 @@ int main(void)
     test_bodies();
     test_silence();
     test_under_z();
+    test_word_length();
     test_status();
     test_edit();
     test_lanes();

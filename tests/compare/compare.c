@@ -8,7 +8,7 @@
 #include <sys/mman.h>
 #include <unistd.h>
 
-enum { SLOTS = 3, ROOM = 65536, ZONE = 64, ENTRIES = 32, NUMBERS = 18, SHOWN = 20 };
+enum { SLOTS = 3, ROOM = 65536, ZONE = 64, ENTRIES = 32, NUMBERS = 24, SHOWN = 20 };
 
 typedef struct {
     uint8_t *rooms[2];       /* the library's and the second program's */

@@ -58,6 +58,7 @@ int edge_touched(void);
 
 void compare_small(uint32_t cases);
 void compare_aes3(uint32_t cases);
+void compare_length(void);
 void compare_madi(uint32_t cases);
 void compare_hd(uint32_t cases);
 

@@ -16,6 +16,10 @@ static void good_block(void)
         if (second_bit(side[72 * channel + 48], 1) == 1)
             memset(side + 72 * channel, 0xFF, 24);
     }
+    for (int k = 0; k < 384; k++) /* as long as declared, and now and then a bit that may be below */
+        samples[k] = second_shortened(side + 72 * (k % 2) + 48, samples[k]);
+    if (once_in(4))
+        samples[below(384)] |= 1 << below(8);
 }
 
 /* One thing that the writer refuses, or nothing. */
@@ -254,12 +258,14 @@ static void aes3_find_in_some(void)
 
 void compare_aes3(uint32_t cases)
 {
-    static const int of_write[] = {0, 1, 2, 3, 4, 5, 6, -1}, of_read[] = {0, 1, 7, 8, 9, -1}, of_find[] = {0, 1, 17, -1}, of_align[] = {0, 1, 2, -1};
+    static const int of_write[] = {0, 1, 2, 3, 4, 5, 6, 18, -1}, of_read[] = {0, 1, 7, 8, 9, -1}, of_find[] = {0, 1, 17, -1};
+    static const int of_align[] = {0, 1, 2, -1};
     static const int of_table[] = {0, 1, -1};
     for (uint32_t k = 0; k < cases; k += 16) {
         aes3_write();
         aes3_read();
     }
+    compare_length();
     for (size_t n = 0; n < 520; n++) /* every entry where there are 256 of them, and nothing at any other length */
         biphase_table_of(n);
     at_the_edges(biphase_table);

@@ -65,6 +65,8 @@ static void good_line(uint8_t line[3072])
         status[0] = (uint8_t)(status[0] / 4 * 4 + 1);
         second_status_seal(status, 24);
     }
+    for (int k = 0; k < 384; k++)
+        samples[k] = second_shortened(side + 72 * (k % 2) + 48, samples[k]);
     second_aes3_write(samples, 384, side, 144, record_below(2), line, 3072);
 }
 

@@ -80,5 +80,7 @@ int second_symbol(const uint8_t *line, long place);       /* the symbol at a pla
 void second_put(uint8_t *line, long place, int symbol);   /* sets it */
 int second_odd(uint32_t body);                            /* 1 if slots 4 to 31 hold an odd number of ones */
 int second_crcc_right(const uint8_t *status);             /* 1 if byte 23 of 24 octets is right */
+int second_overlong(const uint8_t *status, int32_t sample); /* 1 if a bit is 1 below the length that the status declares */
+int32_t second_shortened(const uint8_t *status, int32_t sample); /* the sample with such bits cleared */
 
 #endif

@@ -87,6 +87,9 @@ second_verdict second_aes3_write(const int32_t *samples, size_t samples_len, con
         for (int channel = 0; channel <= 1; channel++)
             if (status_breaks(side, channel, number))
                 return refused((uint32_t)number, (uint32_t)channel);
+    for (uint32_t i = 0; i < SUBFRAMES; i++)
+        if (second_overlong(side + 72 * (i % 2) + 48, samples[i]))
+            return refused(18, i);
     int now = (int)level;
     for (int i = 0; i < SUBFRAMES; i++) {
         uint32_t v = (uint32_t)side_bit(side, i % 2, V_COLUMN, i / 2);

@@ -1,8 +1,9 @@
 -- The promises over whole blocks: what the writer accepts is read back unchanged, what the reader accepted is written
 -- back as the same line, and inverting every symbol changes no answer. Assumes nothing.
 use mathlib.Core.Path.{_≡_, refl, sym, ap, ap₂, _∙_}
+use mathlib.Core.Bool.{false}
 use mathlib.Core.List.{List}
-use Prim.Native.Nat.{ℕ}
+use Prim.Native.Nat.{ℕ, _<_}
 use native.Mathlib.Omega.{arith}
 use borrow.Author.Tests.{eq-eqb, eqb-true, lt-ltb}
 use lib.IntN.{ℤ}
@@ -18,7 +19,7 @@ use Rattle.line.specs.Polarity.{inverted}
 use Rattle.line.proofs.Inverted.{length-inverted}
 use Rattle.block.specs.Side.{sideLength}
 use Rattle.block.specs.Block.{bodiesOf, samplesOf, sideOf}
-use Rattle.block.specs.Check.{statusChecked}
+use Rattle.block.specs.Check.{overlong, statusChecked}
 use Rattle.block.proofs.BlockLaws.{length-bodies, length-samples, length-side, proper, samples-back, side-back, bodies-back}
 use Rattle.block.proofs.CheckLaws.{Passes, met-passes, right-back, read-met}
 use Rattle.aes3_line.specs.Line.{lineFrom, levelBefore, bodiesOn}
@@ -89,16 +90,17 @@ module _ (line bodies : List ℕ) (octets : Below 256 line) (s : List ℤ) (t : 
   abbrev side-read : List ℕ
   side-read = after sideOf (readAnswer line (length s) (length t)) t
 
-  -- writing it back, at the level that the reader took, gives that line if both status blocks pass 4, 5 and 6
-  pub read-written-back : statusChecked side-read ≡ accepted tt
+  -- writing it back, at the level that the reader took, gives that line if both status blocks pass 4, 5 and 6 and no
+  -- sample has a 1 below the length that its channel's status declares
+  pub read-written-back : statusChecked side-read ≡ accepted tt → ((i : ℕ) → i < 384 → overlong samples-read side-read i ≡ false)
       → writeAnswer samples-read side-read (digit (levelBefore line)) 3072 ≡ accepted line
-  read-written-back status =
+  read-written-back status within =
       let r = received line (length s) (length t) bodies e in
       let w = write-back line bodies (r .octets) octets (r .read) in
       let level = digit (levelBefore line) in
       let p : samples-read ≡ samplesOf bodies = rw e (whole samplesOf bodies s (length-samples bodies ∙ sym (r .samples-long))) in
       let q : side-read ≡ sideOf bodies = rw e (whole sideOf bodies t (length-side bodies ∙ sym (r .side-long))) in
-      let m = read-met bodies (ap statusChecked (sym q) ∙ status) in
+      let m = read-met bodies (ap statusChecked (sym q) ∙ status) (λ i h. ap₂ (λ (x : List ℤ) (y : List ℕ). overlong x y i) (sym p) (sym q) ∙ within i h) in
       ap₂ (λ (x : List ℤ) (y : List ℕ). writeAnswer x y level 3072) p q
       ∙ write-passing (samplesOf bodies) (sideOf bodies) level 3072
       (m .0 & m .1 .0 & eq-eqb 3072 3072 refl & lt-ltb level 2 (digit-lt (levelBefore line)) & m .1 .1)

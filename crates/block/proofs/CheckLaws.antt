@@ -1,4 +1,5 @@
--- What a check that found nothing says of the block, and that a block that was read can only be refused for its status.
+-- What a check that found nothing says of the block, and that a block that was read can only be refused for its status
+-- or for a sample that is longer than its status declares.
 -- Assumes nothing.
 use mathlib.Core.Path.{_≡_, refl, sym, ap, _∙_}
 use mathlib.Core.Logic.{⊎-elim}
@@ -23,7 +24,7 @@ use Rattle.subframe.specs.Signed.{inRange}
 use Rattle.subframe.proofs.BodyTrips.{sample-in}
 use Rattle.block.specs.Side.{sideLength}
 use Rattle.block.specs.Block.{samplesOf, sideOf}
-use Rattle.block.specs.Check.{statusOf, statusRight, outside, consumer, wrong, unmarked, statusDemands, blockDemands, checkDemands, statusChecked, checked}
+use Rattle.block.specs.Check.{statusOf, statusRight, outside, consumer, wrong, unmarked, overlong, statusDemands, blockDemands, checkDemands, statusChecked, checked}
 use Rattle.block.proofs.BlockLaws.{InRange, length-samples, getD-samples, length-side}
 
 -- ---- counting, which comes before a search
@@ -68,8 +69,9 @@ pub record Passes (s : List ℤ) (t : List ℕ) : Type 0 where
   pub professional : (channel : ℕ) → channel < 2 → consumer t channel ≡ false
   pub right : (channel : ℕ) → channel < 2 → crccRight (statusOf channel t) ≡ true
   pub marked : (channel : ℕ) → channel < 2 → unmarked t channel ≡ false
+  pub within : (i : ℕ) → i < 384 → overlong s t i ≡ false
 
-in-range : (s : List ℤ) → length s ≡ 384 → ((j : ℕ) → 0 ≤ j → j < 0 + 384 → outside s j ≡ false) → InRange s
+pub in-range : (s : List ℤ) → length s ≡ 384 → ((j : ℕ) → 0 ≤ j → j < 0 + 384 → outside s j ≡ false) → InRange s
 unfolding outside
 in-range s n all i =
     ⊎-elim (λ (h : 384 ≤ i). ap (inRange 24) (List·getD-eq-default s (pos 0) {n = i} (rw n h)))
@@ -87,6 +89,7 @@ met-passes s t m =
       professional = λ ch h. m .1 .1 .1 .0 ch (omega arith) (omega arith);
       right = λ ch h. not-false (crccRight (statusOf ch t)) (m .1 .1 .1 .1 .0 ch (omega arith) (omega arith));
       marked = λ ch h. m .1 .1 .1 .1 .1 .0 ch (omega arith) (omega arith);
+      within = λ i h. m .1 .1 .1 .1 .1 .1 .0 i (omega arith) (omega arith);
     }
 
 module _ (s : List ℤ) (t : List ℕ) where
@@ -109,16 +112,22 @@ pub right-back : (s : List ℤ) (t : List ℕ) → Passes s t → (channel : ℕ
 unfolding statusRight
 right-back s t p channel h = rw (eq-eqb (length t) sideLength (p .side), lt-ltb channel 2 h, p .right channel h)
 
--- ---- a block that was read meets all demands where its status does
+-- ---- a block that was read meets all demands where its status does, and its samples keep to the declared lengths
 
 pub status-met : (t : List ℕ) → statusChecked t ≡ accepted tt → AllMet (statusDemands t)
 unfolding statusChecked
 status-met t e = met tt (statusDemands t) e .0
 
-pub read-met : (b : List ℕ) → statusChecked (sideOf b) ≡ accepted tt → AllMet (checkDemands (samplesOf b) (sideOf b))
+pub read-met : (b : List ℕ) → statusChecked (sideOf b) ≡ accepted tt → ((i : ℕ) → i < 384 → overlong (samplesOf b) (sideOf b) i ≡ false)
+    → AllMet (checkDemands (samplesOf b) (sideOf b))
 unfolding outside
-read-met b e =
+read-met b e within =
+    let m = status-met (sideOf b) e in
     eq-eqb (length (samplesOf b)) 384 (length-samples b)
     & eq-eqb (length (sideOf b)) sideLength (length-side b)
     & (λ j l h. ap (λ (z : ℤ). not (inRange 24 z)) (getD-samples b j (omega arith)) ∙ ap not (sample-in (getD b j 0)))
-    & status-met (sideOf b) e
+    & m .0
+    & m .1 .0
+    & m .1 .1 .0
+    & (λ i l h. within i (omega arith))
+    & tt

@@ -1,20 +1,23 @@
 // A block: 384 samples and a side table of V, U and C. Samples and side table from bodies, and what a writer checks of
 // them.
 ghost use mathlib.Core.Path.{_≡_};
-ghost use mathlib.Core.Bool.{not};
-ghost use Prim.Native.Nat.{_*_, _<_};
+ghost use mathlib.Core.Bool.{true, not};
+ghost use Prim.Native.Nat.{_*_, _%_, _<_};
+ghost use lib.Bits.{bitAnd};
+ghost use lib.Dec.{eqb};
 ghost use lib.ListN.{length, getD};
-ghost use Rattle.bits.specs.Pick.{first};
+ghost use Rattle.bits.specs.Pick.{pick, first};
 ghost use Rattle.bits.specs.Row.{digit, count};
 ghost use Rattle.bits.specs.Listed.{listed};
 ghost use Rattle.answer.specs.Answer.{verdict, after};
 ghost use Rattle.answer.specs.Said.{verdictSaid};
-ghost use Rattle.subframe.specs.Signed.{inRange};
+ghost use Rattle.subframe.specs.Signed.{inRange, codeOf};
 ghost use Rattle.block.specs.Side.{columnBits, columns, columnLength, sideLength};
 ghost use Rattle.block.specs.Block.{samplesOf, sideOf, blockFilled};
-ghost use Rattle.block.specs.Check.{statusOf, statusRight, outside, consumer, wrong, someValid, unmarked, statusChecked, checked};
-ghost use Rattle.block.specs.Inner.{digitsOf, apartTable, gathered, laid, channelSide};
+ghost use Rattle.block.specs.Check.{statusOf, statusRight, outside, consumer, wrong, someValid, unmarked, meaningIn, overlong, statusChecked, checked};
+ghost use Rattle.block.specs.Inner.{digitsOf, apartTable, gathered, laid, channelSide, maskUnder, AllInRange, masked};
 
+mod length;
 mod tables;
 
 use answer::Verdict;
@@ -209,12 +212,12 @@ fn first_outside(samples: &[i32]) -> usize
     i
 }
 
-// Byte 0 of a channel's status.
-fn status_byte(side: &[u8], channel: usize) -> u8
-    requires { ⌜ (length (now side) ≡ sideLength) × (channel < 2) ⌝ }
-    ensures { λ r. ⌜ r ≡ getD (statusOf channel (now (side .entry))) 0 0 ⌝ }
+// A byte of a channel's status.
+fn status_byte(side: &[u8], channel: usize, byte: usize) -> u8
+    requires { ⌜ (length (now side) ≡ sideLength) × (channel < 2) × (byte < columnLength) ⌝ }
+    ensures { λ r. ⌜ r ≡ getD (statusOf channel (now (side .entry))) byte 0 ⌝ }
 {
-    side[COLUMN * (COLUMNS * channel + C)]
+    side[COLUMN * (COLUMNS * channel + C) + byte]
 }
 
 // Whether byte 0 bit 0 is 0.
@@ -222,7 +225,7 @@ fn is_consumer(side: &[u8], channel: usize) -> bool
     requires { ⌜ (length (now side) ≡ sideLength) × (channel < 2) ⌝ }
     ensures { λ r. ⌜ r ≡ consumer (now (side .entry)) channel ⌝ }
 {
-    status_byte(side, channel) % 2 == 0
+    status_byte(side, channel, 0) % 2 == 0
 }
 
 // Whether byte 23 is wrong.
@@ -257,7 +260,7 @@ fn is_unmarked(side: &[u8], channel: usize) -> bool
     requires { ⌜ (length (now side) ≡ sideLength) × (channel < 2) ⌝ }
     ensures { λ r. ⌜ r ≡ unmarked (now (side .entry)) channel ⌝ }
 {
-    if status_byte(side, channel) / 2 % 2 != 1 {
+    if status_byte(side, channel, 0) / 2 % 2 != 1 {
         return false;
     }
     has_valid(side, channel)
@@ -307,7 +310,85 @@ fn check_status(side: &[u8]) -> Verdict
     Verdict::Accepted
 }
 
-// Refusals 1, 3, 4, 5 and 6 of a block.
+// The bits of a sample in which a mask has ones.
+fn bits_in(sample: i32, mask: u32) -> u32
+    requires { ⌜ inRange 24 sample ≡ true ⌝ }
+    ensures { λ r. ⌜ r ≡ bitAnd (codeOf 24 sample) mask ⌝ }
+{
+    ((sample + 16777216) as u32) % 16777216 & mask
+}
+
+// Whether no sample has a 1 in its channel's mask: one pass over several at once, which does not say where one has.
+fn none_masked(samples: &[i32], a: u32, b: u32) -> bool
+    requires { ⌜ (length (now samples) ≡ 384) × AllInRange (now samples) ⌝ }
+    ensures { λ r. ⌜ (r ≡ true → first (masked (now (samples .entry)) a b) 0 384 (λ i. i) 384 ≡ 384) ⌝ }
+{
+    let mut sum: u32 = 0;
+    let mut i: usize = 0;
+    while i < 384 {
+        let x = samples[i];
+        let y = samples[i + 1];
+        sum = sum | bits_in(x, a);
+        sum = sum | bits_in(y, b);
+        i += 2;
+    }
+    sum == 0
+}
+
+// The mask of the channel that sample i belongs to.
+fn mask_at(a: u32, b: u32, i: usize) -> u32
+    ensures { λ r. ⌜ r ≡ pick (eqb (i % 2) 0) a b ⌝ }
+{
+    if i % 2 == 0 {
+        return a;
+    }
+    b
+}
+
+// The first sample that has a 1 in its channel's mask, or 384; nothing is looked at where both masks are empty.
+fn first_masked(samples: &[i32], a: u32, b: u32) -> usize
+    requires { ⌜ (length (now samples) ≡ 384) × AllInRange (now samples) ⌝ }
+    ensures { λ r. ⌜ r ≡ first (masked (now (samples .entry)) a b) 0 384 (λ i. i) 384 ⌝ }
+{
+    if (a | b) == 0 {
+        return 384;
+    }
+    if none_masked(samples, a, b) {
+        return 384;
+    }
+    let mut i: usize = 0;
+    while i < 384 {
+        let x = samples[i];
+        if bits_in(x, mask_at(a, b, i)) != 0 {
+            return i;
+        }
+        i += 1;
+    }
+    i
+}
+
+// The bits of a channel's samples that must be 0, by its status.
+fn mask_under(side: &[u8], channel: usize) -> u32
+    requires { ⌜ (length (now side) ≡ sideLength) × (channel < 2) ⌝ }
+    ensures { λ r. ⌜ r ≡ maskUnder (meaningIn (now (side .entry)) channel) ⌝ }
+{
+    let byte0 = status_byte(side, channel, 0);
+    let byte1 = status_byte(side, channel, 1);
+    let byte2 = status_byte(side, channel, 2);
+    length::mask_of(byte0, byte1, byte2)
+}
+
+// The first sample with a 1 below the length that its channel's status declares, or 384.
+fn first_overlong(samples: &[i32], side: &[u8]) -> usize
+    requires { ⌜ (length (now samples) ≡ 384) × (length (now side) ≡ sideLength) × AllInRange (now samples) ⌝ }
+    ensures { λ r. ⌜ r ≡ first (overlong (now (samples .entry)) (now (side .entry))) 0 384 (λ i. i) 384 ⌝ }
+{
+    let a = mask_under(side, 0);
+    let b = mask_under(side, 1);
+    first_masked(samples, a, b)
+}
+
+// Refusals 1, 3, 4, 5, 6 and 18 of a block.
 pub fn check_block(samples: &[i32], side: &[u8]) -> Verdict
     ensures { λ r. ⌜ verdictSaid r ≡ checked (now (samples .entry)) (now (side .entry)) ⌝ }
 {
@@ -330,5 +411,16 @@ pub fn check_block(samples: &[i32], side: &[u8]) -> Verdict
             place: i as u32,
         };
     }
-    check_status(side)
+    let status = check_status(side);
+    if let Verdict::Refused { number, place } = status {
+        return Verdict::Refused { number, place };
+    }
+    let k = first_overlong(samples, side);
+    if k < 384 {
+        return Verdict::Refused {
+            number: 18,
+            place: k as u32,
+        };
+    }
+    Verdict::Accepted
 }

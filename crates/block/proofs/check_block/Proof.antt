@@ -1,30 +1,60 @@
--- `block::check_block` meets its contract: lengths, then the first sample out of range, then the status. Assumes
--- nothing.
-use mathlib.Core.Path.{_≡_, sym, _∙_}
-use mathlib.Core.List.{List, [], _∷_}
-use Prim.Native.Nat.{ℕ, _≤_}
+-- `block::check_block` meets its contract: lengths, then the first sample out of range, then the status, then the first
+-- sample that is longer than its status declares. Assumes nothing.
+use mathlib.Core.Path.{_≡_, sym, ap, _∙_}
+use mathlib.Core.Bool.{false}
+use mathlib.Core.List.{List, _++_}
+use Prim.Native.Nat.{ℕ, _+_, _≤_, _<_}
 use borrow.Author.Needs.{needs}
 use borrow.Author.Tests.{eq-eqb, ne-eqb}
-use lib.Dec.{eqb}
 use lib.IntN.{ℤ}
 use lib.ListN.{length}
-use Rattle.bits.specs.Pick.{first}
-use Rattle.answer.specs.Answer.{Answer.accepted}
-use Rattle.answer.specs.Demand.{Demand.asks, Demand.findsNone, _&_}
+use Rattle.answer.specs.Answer.{Answer.accepted, Answer.refused}
+use Rattle.answer.specs.Demand.{Stops, AllMet, _&_}
 use Rattle.answer.specs.Demand.Stops.{fails, later}
-use Rattle.answer.proofs.Chains.{stopped, place-found, none-found, passes-on}
+use Rattle.answer.specs.Said.{verdictSaid}
+use Rattle.answer.proofs.Chains.{stopped, stops, passing, extended, place-found, none-found}
 use Rattle.block.specs.Side.{sideLength}
-use Rattle.block.specs.Check.{outside, statusDemands, statusChecked, checked}
+use Rattle.block.specs.Check.{outside, overlong, statusDemands, lengthDemands, checkDemands, statusChecked, checked}
+use Rattle.block.proofs.CheckLaws.{in-range, status-met}
 use Rattle.block.proofs.check_block.Statement.{statement}
 use Rattle.block.proofs.check_block.Tie as tie
 
--- lengths and samples that pass leave the status
-none : (s : List ℤ) (t : List ℕ) (i : ℕ) → length s ≡ 384 → length t ≡ sideLength → i ≡ first (outside s) 0 384 (λ k. k) 384 → 384 ≤ i
-    → checked s t ≡ statusChecked t
-unfolding checked statusChecked
-none s t i ns nt is h =
-    passes-on (accepted tt) (asks 1 0 (eqb (length s) 384) ∷ asks 1 0 (eqb (length t) sideLength) ∷ findsNone 3 (outside s) 0 384 ∷ []) (statusDemands t)
-    (eq-eqb (length s) 384 ns & eq-eqb (length t) sideLength nt & none-found (outside s) 384 i is h & tt)
+-- a status that is refused
+status-stops : (t : List ℕ) (number place : ℕ) → statusChecked t ≡ refused number place → Stops (statusDemands t) number place
+unfolding statusChecked
+status-stops t number place e = stops tt (statusDemands t) number place e
+
+-- lengths and ranges are right
+module _ (c : tie.Else3) where
+  abbrev start : tie.Start
+  start = c .before .before .before .before .before
+
+  abbrev samples : List ℤ
+  samples = start .args .samples .now
+
+  abbrev side : List ℕ
+  side = start .args .side .now
+
+  ns : length samples ≡ 384
+  ns = c .before .before .before .if1 .left
+
+  nt : length side ≡ sideLength
+  nt = c .before .before .if2 .left
+
+  none : (i : ℕ) → 0 ≤ i → i < 0 + 384 → outside samples i ≡ false
+  none = none-found (outside samples) 384 (c .before .first-outside .result) (c .before .first-outside .ensures) (c .if3 .left)
+
+  past : {number place : ℕ} → Stops (statusDemands side ++ lengthDemands samples side) number place → checked samples side ≡ refused number place
+  unfolding checked
+  past s = stopped (accepted tt) (later (eq-eqb _ 384 ns) (later (eq-eqb _ sideLength nt) (later none s)))
+
+-- and so is the status
+module _ (c : tie.After-first-overlong) where
+  abbrev judged : tie.Else3
+  judged = c .before .before .before .before
+
+  status : AllMet (statusDemands (side judged))
+  status = status-met (side judged) (sym (c .before .before .before .check-status .ensures) ∙ ap verdictSaid (c .before .enum-told .given .1))
 
 returns : tie.Need-returns
 unfolding checked
@@ -37,8 +67,8 @@ returns-2 c = sym (stopped (accepted tt) (later (eq-eqb _ 384 (c .before .if1 .l
 first-outside-requires : tie.Need-first-outside-requires
 first-outside-requires c κs = search needs
 
-cast-t6 : tie.Need-cast-t6
-cast-t6 c = search needs
+cast-t10 : tie.Need-cast-t10
+cast-t10 c = search needs
 
 returns-3 : tie.Need-returns-3
 unfolding checked
@@ -52,13 +82,46 @@ returns-3 c =
 check-status-requires : tie.Need-check-status-requires
 check-status-requires c κs = search needs
 
+enum-known-status : tie.Need-enum-known-status
+enum-known-status c = search needs
+
 returns-4 : tie.Need-returns-4
 returns-4 c =
-    let e = c .before .before .before in
-    let s = e .before .before .before in
-    c .check-status .ensures
-    ∙ sym (none (s .args .samples .now) (s .args .side .now) (c .before .before .first-outside .result) (e .before .if1 .left) (e .if2 .left)
-    (c .before .before .first-outside .ensures) (c .before .if3 .left))
+    let k = c .before .before .before in
+    let p = k .before in
+    let found = c .before .status .given in
+    let e : statusChecked (side p) ≡ refused (found .0 .0) (found .0 .1 .0) = sym (k .check-status .ensures) ∙ ap verdictSaid (found .1) in
+    sym (past p (extended (status-stops (side p) (found .0 .0) (found .0 .1 .0) e) (lengthDemands (samples p) (side p))))
+
+enum-told : tie.Need-enum-told
+enum-told c = search needs
+
+first-overlong-requires : tie.Need-first-overlong-requires
+first-overlong-requires c κs =
+    let p = c .before .before .before in
+    (ns p, nt p, λ i h. in-range (samples p) (ns p) (none p) i)
+
+cast-t11 : tie.Need-cast-t11
+cast-t11 c = search needs
+
+returns-5 : tie.Need-returns-5
+returns-5 c =
+    let k = c .before in
+    let p = judged k in
+    let m = status k in
+    sym (past p (later (m .0) (later (m .1 .0) (later (m .1 .1 .0)
+    (place-found (overlong (samples p) (side p)) 384 (k .first-overlong .result) (k .first-overlong .ensures) (c .if4 .taken))))))
+
+returns-6 : tie.Need-returns-6
+unfolding checked
+returns-6 c =
+    let k = c .before in
+    let p = judged k in
+    let m = status k in
+    sym (passing (accepted tt) (checkDemands (samples p) (side p))
+    (eq-eqb _ 384 (ns p) & eq-eqb _ sideLength (nt p) & none p & m .0 & m .1 .0 & m .1 .1 .0
+    & none-found (overlong (samples p) (side p)) 384 (k .first-overlong .result) (k .first-overlong .ensures) (c .if4 .left)
+    & tt))
 
 pub check-block-spec : {M : Type 1} → statement M
 check-block-spec =
@@ -67,7 +130,13 @@ check-block-spec =
     returns
     returns-2
     first-outside-requires
-    cast-t6
+    cast-t10
     returns-3
     check-status-requires
-    returns-4)
+    enum-known-status
+    returns-4
+    enum-told
+    first-overlong-requires
+    cast-t11
+    returns-5
+    returns-6)
