@@ -17,7 +17,7 @@
 .POSIX:
 .NOTPARALLEL:
 .PHONY: report test read alone proofs edits boundary lib program install uninstall bench expected mutants promises clean header second \
-	held hand listed compare card installed
+	held hand listed compare flips card installed
 .PHONY: tried shared failing
 
 PREFIX = /usr/local
@@ -106,7 +106,7 @@ proofs:
 edits:
 	tests/edits
 
-boundary: lib listed compare card failing installed
+boundary: lib listed compare flips card failing installed
 
 promises:
 	@mkdir -p build
@@ -170,6 +170,12 @@ compare: $(ARCHIVE)
 	cat build/compare.txt
 	tests/compared build/compare.txt
 	$(X86) watch build/compare 6000
+
+# Every symbol of one block turned over by itself, and every subframe made odd, beside the second program.
+flips: $(ARCHIVE)
+	@mkdir -p build
+	$(X86) cc $(CFLAGS) $(INCLUDES) -o build/flips tests/flips.c $(SPOIL) $(SECOND) $(ARCHIVE)
+	$(X86) run build/flips
 
 # The example driver over the library.
 card: $(ARCHIVE)

@@ -11,7 +11,7 @@
 enum { ROUNDS = 41, HUNTED = 8192, SYNCS = 26 };
 
 static int32_t samples[384], bound_samples[384], back_samples[384];
-static uint8_t side[144], bound_side[144], back_side[144], line[3072], back_line[3072], hunted[HUNTED];
+static uint8_t side[192], bound_side[192], back_side[192], line[3072], odd_line[3072], back_line[3072], hunted[HUNTED];
 static uint32_t words[64], back_words[64], bodies[4], back_bodies[4];
 static uint8_t madi[LAMPCOIL_MADI_OCTETS(64, SYNCS)], back_madi[LAMPCOIL_MADI_OCTETS(64, SYNCS)];
 static uint16_t packet[31], damaged[31], back_packet[31];
@@ -49,9 +49,10 @@ enum { MOST_ANSWER = 128, MOST_FILLED = 4096 };
     PROGRAM(library_##name, type, lampcoil_##entry arguments)                                                                    \
     PROGRAM(by_hand_##name, type, hand_##entry arguments)
 
-BOTH(aes3_write, lampcoil_verdict, aes3_write, (samples, 384, side, 144, 0, back_line, 3072))
-BOTH(aes3_write_bound, lampcoil_verdict, aes3_write, (bound_samples, 384, bound_side, 144, 0, back_line, 3072))
-BOTH(aes3_read, lampcoil_aes3_read_answer, aes3_read, (line, 3072, back_samples, 384, back_side, 144))
+BOTH(aes3_write, lampcoil_verdict, aes3_write, (samples, 384, side, 192, 0, back_line, 3072))
+BOTH(aes3_write_bound, lampcoil_verdict, aes3_write, (bound_samples, 384, bound_side, 192, 0, back_line, 3072))
+BOTH(aes3_read, lampcoil_aes3_read_answer, aes3_read, (line, 3072, back_samples, 384, back_side, 192))
+BOTH(aes3_read_odd, lampcoil_aes3_read_answer, aes3_read, (odd_line, 3072, back_samples, 384, back_side, 192))
 BOTH(find, lampcoil_aes3_start, aes3_find, (hunted, HUNTED))
 BOTH(madi_write, lampcoil_verdict, madi_write, (64, words, 64, SYNCS, 0, back_madi, sizeof back_madi))
 BOTH(madi_read, lampcoil_madi_read_answer, madi_read,
@@ -118,17 +119,17 @@ static void prepare_carriers(void)
 {
     for (int k = 0; k < 384; k++)
         samples[k] = (int32_t)(draw() & 0xFFFFFF) - 8388608;
-    for (int k = 0; k < 144; k++)
-        side[k] = (uint8_t)draw();
+    for (int k = 0; k < 192; k++)
+        side[k] = k % 96 < 72 ? (uint8_t)draw() : 0;
     for (int c = 0; c < 2; c++) {
-        side[72 * c + 48] = 0x85;
-        side[72 * c + 50] = 0;
-        lampcoil_status_seal(side + 72 * c + 48, 24);
+        side[96 * c + 48] = 0x85;
+        side[96 * c + 50] = 0;
+        lampcoil_status_seal(side + 96 * c + 48, 24);
     }
     memcpy(bound_side, side, sizeof side);
     for (int c = 0; c < 2; c++) { /* words of 20 bits with 24-bit use, and of 16 bits with 20-bit use */
-        bound_side[72 * c + 50] = c == 0 ? 0x0C : 0x08;
-        lampcoil_status_seal(bound_side + 72 * c + 48, 24);
+        bound_side[96 * c + 50] = c == 0 ? 0x0C : 0x08;
+        lampcoil_status_seal(bound_side + 96 * c + 48, 24);
     }
     for (int k = 0; k < 384; k++)
         bound_samples[k] = samples[k] & ~(k % 2 == 0 ? 0x0F : 0xF0);
@@ -139,7 +140,9 @@ static void prepare_carriers(void)
     }
     memcpy(status, side + 48, sizeof status);
     memcpy(bodies, words, sizeof bodies);
-    lampcoil_aes3_write(samples, 384, side, 144, 0, line, 3072);
+    lampcoil_aes3_write(samples, 384, side, 192, 0, line, 3072);
+    for (int k = 0; k < 3072; k++) /* the last symbol of each subframe, and all after it, turned over */
+        odd_line[k] = (uint8_t)(line[k] ^ (k / 8 % 2 == 0 ? 0x00 : 0xFF) ^ (k % 8 == 7 ? 0x01 : 0x00));
     lampcoil_madi_write(64, words, 64, SYNCS, 0, madi, sizeof madi);
     lampcoil_hd_write(1, 17, 1234, 0, 1, 0, bodies, 4, packet, 31);
     memcpy(damaged, packet, sizeof packet);
@@ -227,6 +230,8 @@ static const operation all[] = {
      {FILLS(back_line)}},
     {"AES3 write, a block with none declared", &library_aes3_write, &by_hand_aes3_write, nothing, 3072, {FILLS(back_line)}},
     {"AES3 read, a block", &library_aes3_read, &by_hand_aes3_read, nothing, 3072, {FILLS(back_samples), FILLS(back_side)}},
+    {"AES3 read, a fault in every subframe", &library_aes3_read_odd, &by_hand_aes3_read_odd, nothing, 3072,
+     {FILLS(back_samples), FILLS(back_side)}},
     {"hunt, 8,192 octets at random, no start; C 64 symbols at once", &library_find, &by_hand_find, hunt_noise, HUNTED, {{0}}},
     {"the same; C candidate by candidate", &library_find, &by_hand_by_candidate, hunt_noise, HUNTED, {{0}}},
     {"hunt, 8,192 octets with Z in each, no start; C 64 symbols at once", &library_find, &by_hand_find, hunt_z, HUNTED, {{0}}},

@@ -1,6 +1,5 @@
-/* AES3 by hand. An accepted subframe ends on the level that it began after, since its ones are even and each preamble
-   ends as it began; so one mask serves the whole block, and a right parity is a last symbol equal to the level
-   before. */
+/* AES3 by hand. A subframe with even ones ends on the level that it began after, since each preamble ends as it began: an
+   odd one is told by its last symbol, and turns the mask over for those after it. */
 #include "hand.h"
 
 static uint32_t fourteen[16384]; /* 28 symbols of 14 bits, after level 0 */
@@ -88,8 +87,23 @@ static uint32_t first_busy(const int32_t *samples, uint32_t a, uint32_t b)
     return k;
 }
 
+static uint32_t first_fault(const uint8_t *side)
+{
+    uint8_t any = 0;
+    for (int j = 0; j < 24; j++)
+        any |= side[72 + j] | side[168 + j];
+    if (any != 0)
+        for (uint32_t k = 0; k < 384; k++)
+            if ((side[96 * (k % 2) + 72 + k / 16] >> k / 2 % 8 & 1) != 0)
+                return k;
+    return 384;
+}
+
 static lampcoil_verdict judge(const int32_t *samples, const uint8_t *side)
 {
+    uint32_t fault = first_fault(side);
+    if (fault < 384)
+        return verdict(20, fault);
     uint32_t outside = 0;
     for (int k = 0; k < 384; k++)
         outside |= ((uint32_t)samples[k] + 0x800000u) >> 24;
@@ -98,15 +112,15 @@ static lampcoil_verdict judge(const int32_t *samples, const uint8_t *side)
             if (((uint32_t)samples[k] + 0x800000u) >> 24 != 0)
                 return verdict(3, k);
     for (uint32_t c = 0; c < 2; c++)
-        if ((side[72 * c + 48] & 1) == 0)
+        if ((side[96 * c + 48] & 1) == 0)
             return verdict(4, c);
     for (uint32_t c = 0; c < 2; c++)
-        if (crcc_of(side + 72 * c + 48) != side[72 * c + 71])
+        if (crcc_of(side + 96 * c + 48) != side[96 * c + 71])
             return verdict(5, c);
     for (uint32_t c = 0; c < 2; c++)
-        if ((side[72 * c + 48] & 2) != 0 && !all_ones(side + 72 * c))
+        if ((side[96 * c + 48] & 2) != 0 && !all_ones(side + 96 * c))
             return verdict(6, c);
-    uint32_t k = first_busy(samples, bound_bits(side + 48), bound_bits(side + 120));
+    uint32_t k = first_busy(samples, bound_bits(side + 48), bound_bits(side + 144));
     if (k < 384)
         return verdict(18, k);
     return verdict(0, 0);
@@ -123,7 +137,7 @@ static inline uint64_t subframe(uint32_t d, uint64_t preamble)
 lampcoil_verdict hand_aes3_write(const int32_t *samples, size_t samples_len, const uint8_t *side, size_t side_len, uint32_t level,
                                  uint8_t *line, size_t line_len)
 {
-    if (samples_len != 384 || side_len != 144 || line_len != 3072)
+    if (samples_len != 384 || side_len != 192 || line_len != 3072)
         return verdict(1, 0);
     if (level > 1)
         return verdict(2, 0);
@@ -133,7 +147,7 @@ lampcoil_verdict hand_aes3_write(const int32_t *samples, size_t samples_len, con
     uint64_t mask = 0 - (uint64_t)level, first = 0xE8;
     for (int j = 0; j < 24; j++) {
         uint32_t a = nibbles[side[j]] | nibbles[side[24 + j]] << 1 | nibbles[side[48 + j]] << 2;
-        uint32_t b = nibbles[side[72 + j]] | nibbles[side[96 + j]] << 1 | nibbles[side[120 + j]] << 2;
+        uint32_t b = nibbles[side[96 + j]] | nibbles[side[120 + j]] << 1 | nibbles[side[144 + j]] << 2;
         for (int i = 0; i < 8; i++, a >>= 4, b >>= 4, samples += 2, line += 16) {
             store_be64(line, subframe(((uint32_t)samples[0] & 0xFFFFFFu) | (a & 7) << 24, first) ^ mask);
             store_be64(line + 8, subframe(((uint32_t)samples[1] & 0xFFFFFFu) | (b & 7) << 24, 0xE4) ^ mask);
@@ -165,11 +179,7 @@ static inline uint8_t column(uint32_t x)
 
 static lampcoil_aes3_read_answer broken(uint64_t x, uint64_t preamble, uint32_t place)
 {
-    lampcoil_aes3_read_answer r = {9, place, 0, 0};
-    if (x >> 56 != preamble)
-        r.number = 7;
-    else if (((x ^ x >> 1) & FIRSTS) != FIRSTS)
-        r.number = 8;
+    lampcoil_aes3_read_answer r = {x >> 56 != preamble ? 7 : 8, place, 0, 0};
     return r;
 }
 
@@ -178,8 +188,8 @@ lampcoil_aes3_read_answer hand_aes3_read(const uint8_t *line, size_t line_len, i
 {
     lampcoil_aes3_read_answer r = {0, 0, 0, 0};
     int32_t kept[384];
-    uint8_t table[144];
-    if (line_len != 3072 || samples_len != 384 || side_len != 144) {
+    uint8_t table[192];
+    if (line_len != 3072 || samples_len != 384 || side_len != 192) {
         r.number = 1;
         return r;
     }
@@ -188,21 +198,21 @@ lampcoil_aes3_read_answer hand_aes3_read(const uint8_t *line, size_t line_len, i
         uint32_t tail[2] = {0, 0};
         for (uint32_t i = 0; i < 16; i++) {
             uint64_t x = load_be64(line + 128 * j + 8 * i) ^ mask, change = x ^ x >> 1;
-            if (((x >> 56 ^ preamble) | (~change & FIRSTS) | (x & 1)) != 0)
+            if (((x >> 56 ^ preamble) | (~change & FIRSTS)) != 0)
                 return broken(x, preamble, 16 * j + i);
-            uint32_t d = bits_of(change);
+            uint32_t d = bits_of(change), fault = x & 1;
             kept[16 * j + i] = (int32_t)(d << 8) >> 8;
-            tail[i & 1] |= (d >> 24 & 7) << 4 * (i >> 1);
+            tail[i & 1] |= ((d >> 24 & 7) | fault | fault << 3) << 4 * (i >> 1);
+            mask ^= 0 - (x & 1);
             preamble = i & 1 ? 0xE2 : 0xE4;
         }
         for (int c = 0; c < 2; c++) {
-            table[72 * (uint32_t)c + j] = column(tail[c]);
-            table[72 * (uint32_t)c + 24 + j] = column(tail[c] >> 1);
-            table[72 * (uint32_t)c + 48 + j] = column(tail[c] >> 2);
+            for (uint32_t k = 0; k < 4; k++)
+                table[96 * (uint32_t)c + 24 * k + j] = column(tail[c] >> k);
         }
     }
     r.crcc_a = crcc_of(table + 48) == table[71];
-    r.crcc_b = crcc_of(table + 120) == table[143];
+    r.crcc_b = crcc_of(table + 144) == table[167];
     memcpy(samples, kept, sizeof kept);
     memcpy(side, table, sizeof table);
     return r;

@@ -61,8 +61,8 @@ static void report_refused(unsigned long n, uint32_t number, uint32_t place) { r
 static void report_aes3(unsigned long n, const uint8_t *p, size_t length)
 {
     static int32_t samples[384];
-    static uint8_t side[144];
-    lampcoil_aes3_read_answer r = hand_aes3_read(p, length, samples, 384, side, 144);
+    static uint8_t side[192];
+    lampcoil_aes3_read_answer r = hand_aes3_read(p, length, samples, 384, side, 192);
     if (r.number)
         report_refused(n, r.number, r.place);
     else

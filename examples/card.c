@@ -81,6 +81,14 @@ static int send_block(const tenant *t, memory *m)
     return REFUSED("aes3 write", v);
 }
 
+static int any_fault(const uint8_t *side)
+{
+    uint8_t any = 0;
+    for (size_t k = 0; k < 24; k++)
+        any |= side[LAMPCOIL_SIDE_E_A + k] | side[LAMPCOIL_SIDE_E_B + k];
+    return any != 0;
+}
+
 static int receive_block(const uint8_t *block, memory *m)
 {
     lampcoil_aes3_read_answer r = lampcoil_aes3_read(block, LAMPCOIL_BLOCK_OCTETS, m->samples, LAMPCOIL_BLOCK_SAMPLES,
@@ -89,6 +97,8 @@ static int receive_block(const uint8_t *block, memory *m)
         return 1;
     if (r.crcc_a != 1 || r.crcc_b != 1) /* never refused: what a wrong CRCC means is the driver's to say */
         printf("  aes3 read: a status block is damaged\n");
+    if (any_fault(m->side)) /* nor are these: V is 1 there, and E says why */
+        printf("  aes3 read: subframes came with an odd number of ones\n");
     return 0;
 }
 

@@ -30,9 +30,9 @@ extern "C" {
 #endif
 
 /* The version of this header and of the library beside it. A larger MAJOR may take something away; MINOR adds. */
-#define LAMPCOIL_VERSION "2.3.0"
-#define LAMPCOIL_VERSION_MAJOR 2
-#define LAMPCOIL_VERSION_MINOR 3
+#define LAMPCOIL_VERSION "3.0.0"
+#define LAMPCOIL_VERSION_MAJOR 3
+#define LAMPCOIL_VERSION_MINOR 0
 #define LAMPCOIL_VERSION_PATCH 0
 
 /* Numbers that come back, and what their place is; lampcoil_refusal_text tells when each is given. */
@@ -45,7 +45,7 @@ extern "C" {
 #define LAMPCOIL_REFUSED_VALIDITY 6u     /* place: channel */
 #define LAMPCOIL_REFUSED_PREAMBLE 7u     /* place: subframe 0 to 383 */
 #define LAMPCOIL_REFUSED_SLOT 8u         /* place: subframe */
-#define LAMPCOIL_REFUSED_PARITY 9u       /* place: subframe or channel; at body_read 0 */
+#define LAMPCOIL_REFUSED_PARITY 9u       /* place: channel; at body_read 0 */
 #define LAMPCOIL_REFUSED_FRAME 10u       /* place: bit offset of the boundary */
 #define LAMPCOIL_REFUSED_GROUP 11u       /* place: bit offset of the group */
 #define LAMPCOIL_REFUSED_STATE 12u       /* place: channel or word; at body_read 0 */
@@ -55,6 +55,7 @@ extern "C" {
 #define LAMPCOIL_REFUSED_CHECKSUM 16u    /* place: 30 */
 #define LAMPCOIL_REFUSED_NO_START 17u
 #define LAMPCOIL_REFUSED_WORD_LENGTH 18u /* place: sample index */
+#define LAMPCOIL_REFUSED_FAULT_MAP 20u   /* place: subframe */
 
 /* When a number is given, in words; never null. */
 static inline const char *lampcoil_refusal_text(uint32_t number)
@@ -79,6 +80,8 @@ static inline const char *lampcoil_refusal_text(uint32_t number)
         "the last packet word is wrong",
         "the search finds no block start",
         "writer: a sample has a 1 below the word length that its channel's status declares",
+        "not a number of this library",
+        "writer: an E of the side table is set",
     };
     return number < sizeof texts / sizeof texts[0] ? texts[number] : "not a number of this library";
 }
@@ -86,7 +89,7 @@ static inline const char *lampcoil_refusal_text(uint32_t number)
 /* Lengths, in elements of the buffer. */
 #define LAMPCOIL_STATUS_OCTETS 24u
 #define LAMPCOIL_BLOCK_SAMPLES 384u
-#define LAMPCOIL_SIDE_OCTETS 144u
+#define LAMPCOIL_SIDE_OCTETS 192u
 #define LAMPCOIL_BLOCK_OCTETS 3072u
 #define LAMPCOIL_BIPHASE_ENTRIES 256u
 #define LAMPCOIL_FIND_MOST_OCTETS 8192u
@@ -99,13 +102,15 @@ static inline const char *lampcoil_refusal_text(uint32_t number)
 #define LAMPCOIL_PACKET_BODIES 4u
 
 /* Where the columns of a side table begin: 24 octets each; bit i of octet j belongs to frame 8j+i, bit 0 has weight 1.
-   The C column of a channel is its channel status. */
+   The C column of a channel is its channel status. E is the fault map: see aes3_read. */
 #define LAMPCOIL_SIDE_V_A 0u
 #define LAMPCOIL_SIDE_U_A 24u
 #define LAMPCOIL_SIDE_C_A 48u
-#define LAMPCOIL_SIDE_V_B 72u
-#define LAMPCOIL_SIDE_U_B 96u
-#define LAMPCOIL_SIDE_C_B 120u
+#define LAMPCOIL_SIDE_E_A 72u
+#define LAMPCOIL_SIDE_V_B 96u
+#define LAMPCOIL_SIDE_U_B 120u
+#define LAMPCOIL_SIDE_C_B 144u
+#define LAMPCOIL_SIDE_E_B 168u
 
 /* Bits of a MADI channel word that the caller sets. Bits 0 and 1 (first channel, active) are the library's. */
 #define LAMPCOIL_MADI_B_SUBFRAME 0x4u
@@ -225,15 +230,16 @@ typedef struct {
 } lampcoil_status_meaning;
 lampcoil_status_meaning lampcoil_status_read(const uint8_t *status, size_t status_len);
 
-/* ---- AES3: 384 samples, A and B alternating; a side table of 144 octets; a line of 3,072 octets, eight for each
+/* ---- AES3: 384 samples, A and B alternating; a side table of 192 octets; a line of 3,072 octets, eight for each
    subframe, the earliest symbol in the highest bit. ---- */
 
-/* Writes the whole line after the given level, 0 or 1.
-   Order: LENGTH (each of the three), RANGE (level), SAMPLE, CONSUMER, CRCC, VALIDITY, WORD_LENGTH, each over all its
-   places. Status byte 2 binds a channel's samples where it declares a length: of n bits with 24-bit use (auxiliary bits
-   for the main audio), so that a sample's lowest 24 - n bits are 0; of n bits with 20-bit use (undefined, or
-   coordination), so that bits 4 to 23 - n are 0 and bits 0 to 3 are free. No length, a reserved or user-defined state,
-   and audio for another purpose (byte 0 bit 1) bind nothing. */
+/* Writes the whole line after the given level, 0 or 1. E must be empty: a block that came with faults is not sent on
+   before the caller has said what stands there.
+   Order: LENGTH (each of the three), RANGE (level), FAULT_MAP (an E is set, place 2 frame + channel), SAMPLE, CONSUMER,
+   CRCC, VALIDITY, WORD_LENGTH, each over all its places. Status byte 2 binds a channel's samples where it declares a
+   length: of n bits with 24-bit use (auxiliary bits for the main audio), so that a sample's lowest 24 - n bits are 0; of n
+   bits with 20-bit use (undefined, or coordination), so that bits 4 to 23 - n are 0 and bits 0 to 3 are free. No length,
+   a reserved or user-defined state, and audio for another purpose (byte 0 bit 1) bind nothing. */
 lampcoil_verdict lampcoil_aes3_write(const int32_t *samples, size_t samples_len,
                                      const uint8_t *side, size_t side_len,
                                      uint32_t level, uint8_t *line, size_t line_len);
@@ -246,8 +252,13 @@ lampcoil_verdict lampcoil_biphase_table(uint16_t *table, size_t table_len);
 
 /* Fills all samples and the side table; crcc_a and crcc_b are 1 if byte 23 of that channel's status is right. A wrong
    CRCC is never refused, and nothing of the status is judged. The level before is taken as the opposite of the first
-   symbol, so that a line and its inversion read the same.
-   Order: LENGTH (each of the three buffers), then subframe by subframe PREAMBLE, SLOT, PARITY. */
+   symbol, so that a line and its inversion read the same; before every later subframe it is the symbol that stands there.
+   A subframe whose slots 4 to 31 hold an odd number of ones is not refused: its E is 1 and its V is 1, and its sample, U
+   and C are as received, C in the CRCC's verdict too. Every other subframe has E 0, and V as received.
+   So E tells that bits of a subframe changed, an odd number of them, in a signal that kept the line's rule. A single
+   symbol turned over breaks that rule, at its slot or at the next preamble, and is SLOT or PREAMBLE as before; but for
+   the last symbol of the block, which nothing follows: there E of subframe 383 tells it.
+   Order: LENGTH (each of the three buffers), then subframe by subframe PREAMBLE, SLOT. */
 typedef struct { uint32_t number, place, crcc_a, crcc_b; } lampcoil_aes3_read_answer;
 lampcoil_aes3_read_answer lampcoil_aes3_read(const uint8_t *line, size_t line_len,
                                              int32_t *samples, size_t samples_len,

@@ -119,7 +119,13 @@ static void test_block_refusals(void)
     line[7] ^= 1; /* slot 31 of the first subframe, and the polarity of all after it */
     for (size_t k = 8; k < m; k++)
         line[k] = (uint8_t)~line[k];
-    GIVES(read_block(), LAMPCOIL_REFUSED_PARITY);
+    GIVES(read_block(), LAMPCOIL_ACCEPTED);
+    EXPECT(side[LAMPCOIL_SIDE_E_A] == 1 && side[LAMPCOIL_SIDE_E_B] == 0);
+    GIVES(write_block(n, s, m), LAMPCOIL_REFUSED_FAULT_MAP);
+    quiet();
+    side[LAMPCOIL_SIDE_E_B + 23] = 0x80;
+    GIVES(write_block(n, s, m), LAMPCOIL_REFUSED_FAULT_MAP);
+    EXPECT(write_block(n, s, m).place == 383);
 }
 
 /* A bit of octet 1 of a column belongs to frame 8: it must show in that subframe's slot, whose two symbols then

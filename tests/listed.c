@@ -33,14 +33,14 @@ static int symbol_of(const uint8_t *line, int place)
 }
 
 /* A block with silent samples and both statuses professional, sealed. */
-static void quiet_block(int32_t samples[384], uint8_t side[144])
+static void quiet_block(int32_t samples[384], uint8_t side[192])
 {
     memset(samples, 0, 384 * sizeof samples[0]);
-    memset(side, 0, 144);
+    memset(side, 0, 192);
     side[48] = 1;
-    side[120] = 1;
+    side[144] = 1;
     lampcoil_status_seal(side + 48, 24);
-    lampcoil_status_seal(side + 120, 24);
+    lampcoil_status_seal(side + 144, 24);
 }
 
 static void test_bodies(void)
@@ -62,10 +62,10 @@ static void test_bodies(void)
 static int silent_subframes(uint32_t level, const uint8_t due[8], int *same)
 {
     int32_t samples[384];
-    uint8_t side[144], line[3072];
+    uint8_t side[192], line[3072];
     int found = 0;
     quiet_block(samples, side);
-    lampcoil_aes3_write(samples, 384, side, 144, level, line, 3072);
+    lampcoil_aes3_write(samples, 384, side, 192, level, line, 3072);
     for (int n = 2; n < 384; n += 2)
         if (bit_of(side[48 + n / 16], n / 2 % 8) == 0 && line[8 * n - 1] % 2u == level) {
             found = found + 1;
@@ -89,23 +89,23 @@ static void test_under_z(void)
 {
     static const uint8_t z0[8] = {0xE8, 0xB3, 0x33, 0x33, 0x33, 0x33, 0x33, 0x32};
     int32_t samples[384], back[384];
-    uint8_t side[144], back_side[144], line[3072];
+    uint8_t side[192], back_side[192], line[3072];
     quiet_block(samples, side);
     samples[0] = 1;
-    lampcoil_aes3_write(samples, 384, side, 144, 0, line, 3072);
+    lampcoil_aes3_write(samples, 384, side, 192, 0, line, 3072);
     expect(memcmp(line, z0, 6) == 0, "example 7, first six octets");
     memcpy(line, z0, 8);
-    lampcoil_aes3_read_answer r = lampcoil_aes3_read(line, 3072, back, 384, back_side, 144);
+    lampcoil_aes3_read_answer r = lampcoil_aes3_read(line, 3072, back, 384, back_side, 192);
     expect(r.number == 0 && back[0] == 1 && back_side[48] % 2 == 0 && r.crcc_a == 0 && r.crcc_b == 1, "example 7 read");
     for (int k = 0; k < 3072; k++)
         line[k] = (uint8_t)~line[k];
-    r = lampcoil_aes3_read(line, 3072, back, 384, back_side, 144);
+    r = lampcoil_aes3_read(line, 3072, back, 384, back_side, 192);
     expect(r.number == 0 && back[0] == 1 && r.crcc_a == 0 && r.crcc_b == 1, "the same, inverted");
-    expect(lampcoil_aes3_read(line, 3071, back, 384, back_side, 144).number == 1, "a 3,071-octet block");
+    expect(lampcoil_aes3_read(line, 3071, back, 384, back_side, 192).number == 1, "a 3,071-octet block");
     samples[383] = 8388607;
-    expect(lampcoil_aes3_write(samples, 384, side, 144, 0, line, 3072).number == 0, "sample 8,388,607 in a block");
+    expect(lampcoil_aes3_write(samples, 384, side, 192, 0, line, 3072).number == 0, "sample 8,388,607 in a block");
     samples[383] = 8388608;
-    lampcoil_verdict v = lampcoil_aes3_write(samples, 384, side, 144, 0, line, 3072);
+    lampcoil_verdict v = lampcoil_aes3_write(samples, 384, side, 192, 0, line, 3072);
     expect(v.number == 3 && v.place == 383, "sample 8,388,608 in a block");
 }
 
@@ -113,17 +113,17 @@ static void test_under_z(void)
 static lampcoil_verdict declared(uint8_t byte0, uint8_t byte2, uint32_t at, int32_t sample)
 {
     int32_t samples[384];
-    uint8_t side[144], line[3072];
+    uint8_t side[192], line[3072];
     quiet_block(samples, side);
     memset(side, 0xFF, 24);
-    memset(side + 72, 0xFF, 24);
+    memset(side + 96, 0xFF, 24);
     for (int channel = 0; channel < 2; channel++) {
-        side[72 * channel + 48] = byte0;
-        side[72 * channel + 50] = byte2;
-        lampcoil_status_seal(side + 72 * channel + 48, 24);
+        side[96 * channel + 48] = byte0;
+        side[96 * channel + 50] = byte2;
+        lampcoil_status_seal(side + 96 * channel + 48, 24);
     }
     samples[at] = sample;
-    return lampcoil_aes3_write(samples, 384, side, 144, 0, line, 3072);
+    return lampcoil_aes3_write(samples, 384, side, 192, 0, line, 3072);
 }
 
 /* Byte 2 in the tables' order, bits 5 4 3, then 2 1 0: 001 100 is 20 bits with 24-bit use, 001 000 is 16 with 20-bit
@@ -141,6 +141,34 @@ static void test_word_length(void)
     v = declared(1, 0x08, 8, 16);
     expect(v.number == 18 && v.place == 8, "with 20-bit use slot 8 is bound under 16 bits");
     expect(declared(1, 0x0A, 8, 128).number == 18 && declared(1, 0x08, 8, 256).number == 0, "slot 11 is, slot 12 is not");
+}
+
+/* All symbols after the first of slot 31 turned over: the body is odd, and the block is read. */
+static void test_fault(void)
+{
+    int32_t samples[384], back[384];
+    uint8_t side[192], back_side[192], line[3072];
+    quiet_block(samples, side);
+    samples[7] = -5;
+    lampcoil_aes3_write(samples, 384, side, 192, 0, line, 3072);
+    for (int symbol = 64 * 7 + 63; symbol < 24576; symbol++)
+        line[symbol / 8] ^= (uint8_t)(128 >> symbol % 8);
+    lampcoil_aes3_read_answer r = lampcoil_aes3_read(line, 3072, back, 384, back_side, 192);
+    expect(r.number == 0 && r.crcc_a == 1 && r.crcc_b == 1, "an odd subframe does not cost the block");
+    expect(memcmp(samples, back, sizeof back) == 0, "the sample of an odd subframe is as received");
+    expect(back_side[168] == 8 && back_side[96] == 8, "E and V of frame 3 of B are set");
+    back_side[168] = back_side[96] = 0;
+    expect(memcmp(side, back_side, sizeof side) == 0, "and nothing else");
+    side[168] = 8;
+    samples[0] = 8388608;
+    lampcoil_verdict v = lampcoil_aes3_write(samples, 384, side, 192, 0, line, 3072);
+    expect(v.number == 20 && v.place == 7, "20 for an E that is set, before 3");
+    line[3071] ^= 1;
+    r = lampcoil_aes3_read(line, 3072, back, 384, back_side, 192);
+    expect(r.number == 0 && back_side[168] == 8 && back_side[191] == 128, "the last symbol of a block turned over is E of the last subframe");
+    line[3063] ^= 1;
+    r = lampcoil_aes3_read(line, 3072, back, 384, back_side, 192);
+    expect(r.number == 7 && r.place == 383, "that of another subframe is 7 at the next");
 }
 
 static void test_status(void)
@@ -291,7 +319,7 @@ static void test_madi_counts(void)
 static void test_compared(void)
 {
     static int32_t samples[384];
-    static uint8_t side[144], line[8193];
+    static uint8_t side[192], line[8193];
     lampcoil_aes3_start s = lampcoil_aes3_find(line, 8193);
     expect(s.number == 1 && s.position == 0 && s.compared == 0, "refusal 1 carries 0");
     s = lampcoil_aes3_find(line, 9);
@@ -300,7 +328,7 @@ static void test_compared(void)
     expect(s.number == 17 && s.position == 0 && s.compared == 8, "eight candidates, each left at its first symbol");
     /* behind an octet of zeros: seven candidates are left at their first symbol, the eighth fits */
     quiet_block(samples, side);
-    lampcoil_aes3_write(samples, 384, side, 144, 0, line + 1, 3072);
+    lampcoil_aes3_write(samples, 384, side, 192, 0, line + 1, 3072);
     s = lampcoil_aes3_find(line, 3073);
     expect(s.number == 0 && s.position == 8 && s.compared == 7 + 16, "a candidate that fits costs 16");
     line[9] ^= 0x80; /* the first symbol of Y */
@@ -312,9 +340,9 @@ static void test_compared(void)
 static void test_aligned(void)
 {
     static int32_t samples[384], back[384];
-    static uint8_t side[144], side_back[144], line[3072], shifted[3073], block[3072];
+    static uint8_t side[192], side_back[192], line[3072], shifted[3073], block[3072];
     quiet_block(samples, side);
-    lampcoil_aes3_write(samples, 384, side, 144, 0, line, 3072);
+    lampcoil_aes3_write(samples, 384, side, 192, 0, line, 3072);
     for (size_t k = 0; k < 3072; k++) {
         shifted[k] = (uint8_t)(shifted[k] | line[k] >> 3);
         shifted[k + 1] = (uint8_t)(line[k] << 5);
@@ -323,7 +351,7 @@ static void test_aligned(void)
     expect(s.number == 0 && s.position == 3, "found at symbol 3");
     lampcoil_verdict v = lampcoil_aes3_align(shifted, 3073, 3, block, 3072);
     expect(v.number == 0 && v.place == 0 && memcmp(block, line, 3072) == 0, "aligned is the block that was written");
-    lampcoil_aes3_read_answer r = lampcoil_aes3_read(block, 3072, back, 384, side_back, 144);
+    lampcoil_aes3_read_answer r = lampcoil_aes3_read(block, 3072, back, 384, side_back, 192);
     expect(r.number == 0 && memcmp(back, samples, sizeof back) == 0, "and is read");
     v = lampcoil_aes3_align(shifted, 3073, 8, block, 3072);
     expect(v.number == 0, "the last position");
@@ -337,6 +365,7 @@ int main(void)
     test_silence();
     test_under_z();
     test_word_length();
+    test_fault();
     test_status();
     test_edit();
     test_lanes();

@@ -4,7 +4,7 @@
 #include <string.h>
 
 static int32_t samples[400];
-static uint8_t side[160], line[3100];
+static uint8_t side[208], line[3100];
 
 static void good_block(void)
 {
@@ -12,12 +12,13 @@ static void good_block(void)
         samples[k] = once_in(50) ? (once_in(2) ? 8388607 : -8388608) : (int32_t)below(16777216) - 8388608;
     random_octets(side, sizeof side);
     for (int channel = 0; channel < 2; channel++) {
-        random_status(side + 72 * channel + 48);
-        if (second_bit(side[72 * channel + 48], 1) == 1)
-            memset(side + 72 * channel, 0xFF, 24);
+        memset(side + 96 * channel + 72, 0, 24); /* E is empty */
+        random_status(side + 96 * channel + 48);
+        if (second_bit(side[96 * channel + 48], 1) == 1)
+            memset(side + 96 * channel, 0xFF, 24);
     }
     for (int k = 0; k < 384; k++) /* as long as declared, and now and then a bit that may be below */
-        samples[k] = second_shortened(side + 72 * (k % 2) + 48, samples[k]);
+        samples[k] = second_shortened(side + 96 * (k % 2) + 48, samples[k]);
     if (once_in(4))
         samples[below(384)] |= 1 << below(8);
 }
@@ -26,11 +27,14 @@ static void good_block(void)
 static void spoil_block(void)
 {
     static const int32_t outside[] = {8388608, -8388609, INT32_MAX, INT32_MIN, 16777215};
-    uint8_t *channel = side + 72 * below(2);
+    uint8_t *channel = side + 96 * below(2);
     uint32_t at = below(384);
-    switch (below(8)) {
+    switch (below(9)) {
     case 0:
         samples[at] = outside[below(5)];
+        break;
+    case 4: /* an E, at either end or anywhere */
+        channel[72 + (once_in(3) ? 0 : once_in(2) ? 23 : at % 24)] |= (uint8_t)second_weight((int)below(8));
         break;
     case 1: /* consumer use, sealed or not */
         channel[48] &= 0xFE;
@@ -59,7 +63,7 @@ static void aes3_write(void)
     good_block();
     for (uint32_t k = below(3); k > 0; k--)
         spoil_block();
-    size_t n = any_length(384), s = any_length(144), m = any_length(3072);
+    size_t n = any_length(384), s = any_length(192), m = any_length(3072);
     uint32_t level = any_number(1);
     begin("aes3_write");
     lent p = lend_in("samples", samples, n, 4), q = lend_in("side", side, s, 1), r = lend_out("line", m, 1);
@@ -87,7 +91,7 @@ static void biphase_table(void)
 static void good_line(void)
 {
     good_block();
-    second_aes3_write(samples, 384, side, 144, below(2), line, 3072);
+    second_aes3_write(samples, 384, side, 192, below(2), line, 3072);
 }
 
 static void damage_line(void)
@@ -100,7 +104,7 @@ static void damage_line(void)
     case 1: /* a preamble symbol */
         spoil_flip(line, 64 * subframe + below(8));
         break;
-    case 2: /* odd parity */
+    case 2: /* an odd body */
         spoil_slot(line, subframe, one, 24576);
         break;
     case 3: /* two bits of one subframe: parity holds, and only the CRCC may tell */
@@ -129,10 +133,13 @@ static void aes3_read(void)
         good_line();
     for (uint32_t k = below(3); k > 0; k--)
         damage_line();
+    if (once_in(16)) /* every body odd */
+        for (uint32_t k = 0; k < 384; k++)
+            spoil_slot(line, k, 4 + below(28), 24576);
     if (once_in(4))
         for (int k = 0; k < 3072; k++)
             line[k] = (uint8_t)(255 - line[k]);
-    size_t n = any_length(384), s = any_length(144), m = any_length(3072);
+    size_t n = any_length(384), s = any_length(192), m = any_length(3072);
     begin("aes3_read");
     lent p = lend_in("line", line, m, 1), q = lend_out("samples", n, 4), r = lend_out("side", s, 1);
     lampcoil_aes3_read_answer a = lampcoil_aes3_read(p.library, p.elements, q.library, q.elements, r.library, r.elements);
@@ -258,7 +265,7 @@ static void aes3_find_in_some(void)
 
 void compare_aes3(uint32_t cases)
 {
-    static const int of_write[] = {0, 1, 2, 3, 4, 5, 6, 18, -1}, of_read[] = {0, 1, 7, 8, 9, -1}, of_find[] = {0, 1, 17, -1};
+    static const int of_write[] = {0, 1, 2, 3, 4, 5, 6, 18, 20, -1}, of_read[] = {0, 1, 7, 8, -1}, of_find[] = {0, 1, 17, -1};
     static const int of_align[] = {0, 1, 2, -1};
     static const int of_table[] = {0, 1, -1};
     for (uint32_t k = 0; k < cases; k += 16) {

@@ -4,12 +4,12 @@
 #include <string.h>
 
 static int32_t samples[384];
-static uint8_t side[144];
+static uint8_t side[192];
 
 static void aes3_write(void)
 {
     begin("aes3_write");
-    lent p = lend_in("samples", samples, 384, 4), q = lend_in("side", side, 144, 1), r = lend_out("line", 3072, 1);
+    lent p = lend_in("samples", samples, 384, 4), q = lend_in("side", side, 192, 1), r = lend_out("line", 3072, 1);
     lampcoil_verdict a = lampcoil_aes3_write(p.library, p.elements, q.library, q.elements, 0, r.library, r.elements);
     second_verdict b = second_aes3_write(p.second, p.elements, q.second, q.elements, 0, r.second, r.elements);
     END(a, b);
@@ -18,19 +18,19 @@ static void aes3_write(void)
 /* Bytes 0 and 2 of a channel, sealed; every V is 1, so that no purpose of the audio is refused for it. */
 static void declare(int channel, uint8_t byte0, uint32_t byte2)
 {
-    uint8_t *status = side + 72 * channel + 48;
+    uint8_t *status = side + 96 * channel + 48;
     random_status(status);
     status[0] = byte0;
     status[2] = (uint8_t)byte2;
     second_status_seal(status, 24);
-    memset(side + 72 * channel, 0xFF, 24);
+    memset(side + 96 * channel, 0xFF, 24);
 }
 
 /* One busy bit, at a place that the other channel's status may bind; the other samples are as long as declared. */
 static void busy(int channel, int bit)
 {
     for (int k = 0; k < 384; k++)
-        samples[k] = second_shortened(side + 72 * (k % 2) + 48, (int32_t)below(16777216) - 8388608);
+        samples[k] = second_shortened(side + 96 * (k % 2) + 48, (int32_t)below(16777216) - 8388608);
     uint32_t at = 2 * below(192) + (uint32_t)channel;
     samples[at] = bit == 23 ? -8388608 : 1 << bit;
     aes3_write();
@@ -60,7 +60,7 @@ void compare_length(void)
             aes3_write();
             /* 6 is before 18 */
             declare(channel, 0x87, state);
-            side[72 * channel + below(24)] ^= 1;
+            side[96 * channel + below(24)] ^= 1;
             aes3_write();
         }
 }

@@ -55,19 +55,19 @@ static uint32_t draw_body(void)
 static void good_line(uint8_t line[3072])
 {
     int32_t samples[384];
-    uint8_t side[144];
+    uint8_t side[192];
     for (int k = 0; k < 384; k++)
         samples[k] = draw_sample();
-    for (int k = 0; k < 144; k++)
-        side[k] = (uint8_t)record_below(256);
+    for (int k = 0; k < 192; k++)
+        side[k] = k % 96 < 72 ? (uint8_t)record_below(256) : 0; /* E is empty */
     for (int channel = 0; channel < 2; channel++) {
-        uint8_t *status = side + 72 * channel + 48;
+        uint8_t *status = side + 96 * channel + 48;
         status[0] = (uint8_t)(status[0] / 4 * 4 + 1);
         second_status_seal(status, 24);
     }
     for (int k = 0; k < 384; k++)
-        samples[k] = second_shortened(side + 72 * (k % 2) + 48, samples[k]);
-    second_aes3_write(samples, 384, side, 144, record_below(2), line, 3072);
+        samples[k] = second_shortened(side + 96 * (k % 2) + 48, samples[k]);
+    second_aes3_write(samples, 384, side, 192, record_below(2), line, 3072);
 }
 
 void record_aes3(int way)
@@ -87,7 +87,7 @@ void record_aes3(int way)
     if (way == AES3_SLOT)
         for (uint32_t k = symbol + 8 + 2 * record_below(28); k < 24576; k++)
             spoil_flip(line, k);
-    if (way == AES3_PARITY)
+    if (way == AES3_ODD)
         spoil_slot(line, subframe, 4 + record_below(28), 24576);
     record_put(1, 1, line, way == AES3_SHORT ? 3071 : 3072);
 }

@@ -16,7 +16,7 @@ void record_put(int version, int kind, const uint8_t *payload, size_t n);   /* a
 /* Ways of spoiling; 0 is good. The number that the reader must give stands beside each. */
 enum {
     AES3_GOOD, AES3_INVERTED, AES3_CRCC_A, AES3_CRCC_B, /* all accepted */
-    AES3_PREAMBLE /* 7 */, AES3_SLOT /* 8 */, AES3_PARITY /* 9 */, AES3_SHORT /* 1 */, AES3_WAYS
+    AES3_PREAMBLE /* 7 */, AES3_SLOT /* 8 */, AES3_ODD /* accepted */, AES3_SHORT /* 1 */, AES3_WAYS
 };
 enum {
     HD_GOOD, HD_ABOVE /* 14 */, HD_HEADER /* 13 */, HD_WORD /* 14 */, HD_CHECKSUM /* 16 */, HD_LANE /* 15 */, HD_ZERO /* 12 */,

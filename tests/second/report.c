@@ -12,8 +12,8 @@ static void refused(unsigned long n, uint32_t number, uint32_t place)
 static void report_aes3(unsigned long n, const uint8_t *payload, size_t length)
 {
     int32_t samples[384];
-    uint8_t side[144];
-    second_aes3_read_answer r = second_aes3_read(payload, length, samples, 384, side, 144);
+    uint8_t side[192];
+    second_aes3_read_answer r = second_aes3_read(payload, length, samples, 384, side, 192);
     if (r.number != 0)
         refused(n, r.number, r.place);
     else

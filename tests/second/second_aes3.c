@@ -1,8 +1,8 @@
 /* The second program: AES3 blocks on a biphase line, the search for their start, and biphase by octet. */
 #include "second.h"
 
-enum { FRAMES = 192, SUBFRAMES = 384, SIDE = 144, LINE = 3072, ENTRIES = 256 };
-enum { V_COLUMN = 0, U_COLUMN = 1, C_COLUMN = 2 };
+enum { FRAMES = 192, SUBFRAMES = 384, SIDE = 192, LINE = 3072, ENTRIES = 256 };
+enum { V_COLUMN = 0, U_COLUMN = 1, C_COLUMN = 2, E_COLUMN = 3 };
 
 /* The eight symbols of each preamble after level 0. */
 static const int preamble_x[8] = {1, 1, 1, 0, 0, 0, 1, 0};
@@ -21,10 +21,19 @@ static int after(int level, int symbol)
     return level == 0 ? symbol : 1 - symbol;
 }
 
-/* V, U, C of A, then V, U, C of B, 24 octets each; bit i of octet j belongs to frame 8j+i. */
+/* V, U, C, E of A, then V, U, C, E of B, 24 octets each; bit i of octet j belongs to frame 8j+i. */
 static int side_bit(const uint8_t *side, int channel, int column, int frame)
 {
-    return second_bit(side[72 * channel + 24 * column + frame / 8], frame % 8);
+    return second_bit(side[96 * channel + 24 * column + frame / 8], frame % 8);
+}
+
+static uint32_t first_fault(const uint8_t *side)
+{
+    for (int frame = 0; frame < FRAMES; frame++)
+        for (int channel = 0; channel <= 1; channel++)
+            if (side_bit(side, channel, E_COLUMN, frame) == 1)
+                return 2 * (uint32_t)frame + (uint32_t)channel;
+    return SUBFRAMES;
 }
 
 static uint32_t first_sample_outside(const int32_t *samples)
@@ -41,7 +50,7 @@ static int status_breaks(const uint8_t *side, int channel, int number)
     if (number == 4)
         return side_bit(side, channel, C_COLUMN, 0) == 0;
     if (number == 5)
-        return !second_crcc_right(side + 72 * channel + 48);
+        return !second_crcc_right(side + 96 * channel + 48);
     if (side_bit(side, channel, C_COLUMN, 1) == 0)
         return 0;
     for (int frame = 0; frame < FRAMES; frame++)
@@ -81,6 +90,8 @@ second_verdict second_aes3_write(const int32_t *samples, size_t samples_len, con
         return refused(1, 0);
     if (level > 1)
         return refused(2, 0);
+    if (first_fault(side) < SUBFRAMES)
+        return refused(20, first_fault(side));
     if (first_sample_outside(samples) < SUBFRAMES)
         return refused(3, first_sample_outside(samples));
     for (int number = 4; number <= 6; number++)
@@ -88,7 +99,7 @@ second_verdict second_aes3_write(const int32_t *samples, size_t samples_len, con
             if (status_breaks(side, channel, number))
                 return refused((uint32_t)number, (uint32_t)channel);
     for (uint32_t i = 0; i < SUBFRAMES; i++)
-        if (second_overlong(side + 72 * (i % 2) + 48, samples[i]))
+        if (second_overlong(side + 96 * (i % 2) + 48, samples[i]))
             return refused(18, i);
     int now = (int)level;
     for (int i = 0; i < SUBFRAMES; i++) {
@@ -121,6 +132,16 @@ second_verdict second_biphase_table(uint16_t *table, size_t table_len)
     return r;
 }
 
+/* The 24 bits of slots 4 to 27 in two's complement, the sign in slot 27. */
+static int32_t sample_of(uint32_t body)
+{
+    int32_t sample = second_bit(body, 27) == 1 ? -16777216 : 0;
+    for (int k = 0; k < 24; k++)
+        if (second_bit(body, 4 + k) == 1)
+            sample += (int32_t)second_weight(k);
+    return sample;
+}
+
 /* Reads a subframe into *body; the number of the slot rule that broke first, or 0. */
 static uint32_t read_subframe(const uint8_t *line, int subframe, int level, uint32_t *body)
 {
@@ -139,7 +160,7 @@ static uint32_t read_subframe(const uint8_t *line, int subframe, int level, uint
         if (two != one)
             *body = *body + second_weight(slot);
     }
-    return second_odd(*body) ? 9 : 0;
+    return 0;
 }
 
 second_aes3_read_answer second_aes3_read(const uint8_t *line, size_t line_len, int32_t *samples, size_t samples_len, uint8_t *side,
@@ -163,17 +184,18 @@ second_aes3_read_answer second_aes3_read(const uint8_t *line, size_t line_len, i
     for (int k = 0; k < SIDE; k++)
         side[k] = 0;
     for (int i = 0; i < SUBFRAMES; i++) {
-        second_body_meaning m = second_body_read(bodies[i]);
-        uint32_t bits[3] = {m.v, m.u, m.c};
-        samples[i] = m.sample;
-        for (int column = 0; column < 3; column++)
+        /* the sample, U and C as received; an odd number of ones is told by E, and V is then 1 */
+        int fault = second_odd(bodies[i]);
+        int bits[4] = {fault ? 1 : second_bit(bodies[i], 28), second_bit(bodies[i], 29), second_bit(bodies[i], 30), fault};
+        samples[i] = sample_of(bodies[i]);
+        for (int column = 0; column < 4; column++)
             if (bits[column] == 1) {
-                uint8_t *octet = &side[72 * (i % 2) + 24 * column + i / 2 / 8];
+                uint8_t *octet = &side[96 * (i % 2) + 24 * column + i / 2 / 8];
                 *octet = (uint8_t)(*octet + second_weight(i / 2 % 8));
             }
     }
     r.crcc_a = (uint32_t)second_crcc_right(side + 48);
-    r.crcc_b = (uint32_t)second_crcc_right(side + 120);
+    r.crcc_b = (uint32_t)second_crcc_right(side + 144);
     return r;
 }
 

@@ -66,24 +66,24 @@ static void small(void)
 /* ---- AES3 */
 
 static int32_t samples[384];
-static uint8_t side[144], line[8193];
+static uint8_t side[192], line[8193];
 
 static void write_block(uint32_t level)
 {
-    second_verdict v = second_aes3_write(samples, 384, side, 144, level, line, 3072);
+    second_verdict v = second_aes3_write(samples, 384, side, 192, level, line, 3072);
     printf("write %u %u %u\n", v.number, v.place, sum_octets(line, 3072));
 }
 
 static void read_block(size_t n)
 {
     int32_t back[384];
-    uint8_t table[144];
+    uint8_t table[192];
     memset(table, 7, sizeof table);
-    second_aes3_read_answer a = second_aes3_read(line, n, back, 384, table, 144);
+    second_aes3_read_answer a = second_aes3_read(line, n, back, 384, table, 192);
     printf("read %u %u", a.number, a.place);
     if (a.number == 0)
         printf(" %u %u", a.crcc_a, a.crcc_b);
-    printf(" %u\n", sum_octets(table, 144));
+    printf(" %u\n", sum_octets(table, 192));
 }
 
 static void fill_side(uint8_t a, uint8_t crcc_a, uint8_t b, uint8_t crcc_b)
@@ -91,8 +91,8 @@ static void fill_side(uint8_t a, uint8_t crcc_a, uint8_t b, uint8_t crcc_b)
     memset(side, 0, sizeof side);
     side[48] = a;
     side[71] = crcc_a;
-    side[120] = b;
-    side[143] = crcc_b;
+    side[144] = b;
+    side[167] = crcc_b;
 }
 
 static void block(int32_t last, uint8_t a, uint8_t crcc_a, uint8_t b, uint8_t crcc_b, uint32_t level)
@@ -125,8 +125,31 @@ static void flip(unsigned symbol)
     second_put(line, symbol, !second_symbol(line, symbol));
 }
 
-/* The first symbol of a preamble, the first of slot 31 and the last, of every subframe; a line that is one octet
-   short. */
+/* From the last symbol of each sixteenth subframe on, the line turns over, and stays so: one odd body more each time. */
+static void odd_bodies(void)
+{
+    for (unsigned k = 0; k < 24; k++) {
+        for (unsigned symbol = 1024 * k + 63; symbol < 24576; symbol++)
+            flip(symbol);
+        read_block(3072);
+    }
+}
+
+/* E of frame 191 of A; of frame 0 of B as well; of frame 0 of A as well, with a level that is no level and with one. */
+static void tables_with_faults(void)
+{
+    fill_side(1, 0x32, 1, 0x32);
+    side[95] = 128;
+    write_block(0);
+    side[168] = 1;
+    write_block(0);
+    side[72] = 1;
+    write_block(2);
+    write_block(1);
+}
+
+/* The first symbol of a preamble, the first of slot 31 and the last, of every subframe; odd bodies; tables with E set; a
+   line that is one octet short. */
 static void damaged(void)
 {
     static const unsigned at[3] = {0, 62, 63};
@@ -139,6 +162,8 @@ static void damaged(void)
         read_block(3072);
         flip(64 * (k / 3) + at[k % 3]);
     }
+    odd_bodies();
+    tables_with_faults();
     read_block(3071);
 }
 

@@ -1,13 +1,13 @@
 -- The promises over whole blocks: what the writer accepts is read back unchanged, what the reader accepted is written
--- back as the same line, and inverting every symbol changes no answer. Assumes nothing.
-use mathlib.Core.Path.{_≡_, refl, sym, ap, ap₂, _∙_}
+-- back as the same line where E is empty, and inverting every symbol changes no answer. Assumes nothing.
+use mathlib.Core.Path.{_≡_, refl, sym, ap, ap₂, _∙_, subst}
 use mathlib.Core.Bool.{false}
 use mathlib.Core.List.{List}
 use Prim.Native.Nat.{ℕ, _<_}
 use native.Mathlib.Omega.{arith}
 use borrow.Author.Tests.{eq-eqb, eqb-true, lt-ltb}
 use lib.IntN.{ℤ}
-use lib.ListN.{length}
+use lib.ListN.{length, getD}
 use Rattle.bits.specs.Row.{odd, digit, Below}
 use Rattle.bits.specs.Pack.{symbols}
 use Rattle.bits.proofs.Digits.{digit-lt, odd-digit}
@@ -17,10 +17,11 @@ use Rattle.answer.proofs.Residues.{whole}
 use Rattle.line.specs.Biphase.{left}
 use Rattle.line.specs.Polarity.{inverted}
 use Rattle.line.proofs.Inverted.{length-inverted}
+use Rattle.subframe.proofs.BodyTrips.{proper-body}
 use Rattle.block.specs.Side.{sideLength}
 use Rattle.block.specs.Block.{bodiesOf, samplesOf, sideOf}
-use Rattle.block.specs.Check.{overlong, statusChecked}
-use Rattle.block.proofs.BlockLaws.{length-bodies, length-samples, length-side, proper, samples-back, side-back, bodies-back}
+use Rattle.block.specs.Check.{Faultless, overlong, statusChecked}
+use Rattle.block.proofs.BlockLaws.{length-bodies, length-samples, length-side, proper, samples-back, side-back, even-read, bodies-back}
 use Rattle.block.proofs.CheckLaws.{Passes, met-passes, right-back, read-met}
 use Rattle.aes3_line.specs.Line.{lineFrom, levelBefore, bodiesOn}
 use Rattle.aes3_line.proofs.LineTrips.{line-level, read-back, write-back}
@@ -58,7 +59,11 @@ module _ (samples : List ℤ) (side : List ℕ) (level : ℕ) (old line : List �
   block-read =
       by-line written 384 sideLength (ap length is-block ∙ length-block samples side level) refl refl
       ∙ ap bodiesOn (is-block ∙ block-line samples side level)
-      ∙ read-back (odd level) bodies (length-bodies samples side) (proper samples side)
+      ∙ read-back (odd level) bodies (length-bodies samples side) (λ i. proper-body (getD bodies i 0) (proper samples side i))
+
+  -- the writer accepts only a table whose E is empty
+  pub written-faultless : Faultless side
+  written-faultless = passes .faultless
 
   -- whatever the writer accepts the reader accepts, with the same samples, the same side table and both CRCCs right
   pub written-read-back : (s : List ℤ) (t : List ℕ) → length s ≡ 384 → length t ≡ sideLength
@@ -66,7 +71,7 @@ module _ (samples : List ℤ) (side : List ℕ) (level : ℕ) (old line : List �
       × (after samplesOf (readAnswer written (length s) (length t)) s ≡ samples)
       × (after sideOf (readAnswer written (length s) (length t)) t ≡ side)
   written-read-back s t ns nt =
-      let back : sideOf bodies ≡ side = side-back samples side (passes .ranges) (passes .side) octets in
+      let back : sideOf bodies ≡ side = side-back samples side (passes .ranges) (passes .side) octets written-faultless in
       rw (ns, nt, block-read) (
         rw (back, right-back samples side passes 0 (omega arith), right-back samples side passes 1 (omega arith)),
         whole samplesOf bodies s (length-samples bodies ∙ sym ns) ∙ samples-back samples side (passes .ranges) (passes .samples),
@@ -90,22 +95,24 @@ module _ (line bodies : List ℕ) (octets : Below 256 line) (s : List ℤ) (t : 
   abbrev side-read : List ℕ
   side-read = after sideOf (readAnswer line (length s) (length t)) t
 
-  -- writing it back, at the level that the reader took, gives that line if both status blocks pass 4, 5 and 6 and no
-  -- sample has a 1 below the length that its channel's status declares
-  pub read-written-back : statusChecked side-read ≡ accepted tt → ((i : ℕ) → i < 384 → overlong samples-read side-read i ≡ false)
+  -- writing it back, at the level that the reader took, gives that line if E is empty, both status blocks pass 4, 5 and
+  -- 6, and no sample has a 1 below the length that its channel's status declares
+  pub read-written-back : Faultless side-read → statusChecked side-read ≡ accepted tt
+      → ((i : ℕ) → i < 384 → overlong samples-read side-read i ≡ false)
       → writeAnswer samples-read side-read (digit (levelBefore line)) 3072 ≡ accepted line
-  read-written-back status within =
+  read-written-back none status within =
       let r = received line (length s) (length t) bodies e in
       let w = write-back line bodies (r .octets) octets (r .read) in
       let level = digit (levelBefore line) in
       let p : samples-read ≡ samplesOf bodies = rw e (whole samplesOf bodies s (length-samples bodies ∙ sym (r .samples-long))) in
       let q : side-read ≡ sideOf bodies = rw e (whole sideOf bodies t (length-side bodies ∙ sym (r .side-long))) in
-      let m = read-met bodies (ap statusChecked (sym q) ∙ status) (λ i h. ap₂ (λ (x : List ℤ) (y : List ℕ). overlong x y i) (sym p) (sym q) ∙ within i h) in
+      let empty : Faultless (sideOf bodies) = subst Faultless q none in
+      let m = read-met bodies empty (ap statusChecked (sym q) ∙ status) (λ i h. ap₂ (λ (x : List ℤ) (y : List ℕ). overlong x y i) (sym p) (sym q) ∙ within i h) in
       ap₂ (λ (x : List ℤ) (y : List ℕ). writeAnswer x y level 3072) p q
       ∙ write-passing (samplesOf bodies) (sideOf bodies) level 3072
       (m .0 & m .1 .0 & eq-eqb 3072 3072 refl & lt-ltb level 2 (digit-lt (levelBefore line)) & m .1 .1)
       ∙ ap accepted (block-line (samplesOf bodies) (sideOf bodies) level
-      ∙ rw (odd-digit (levelBefore line), bodies-back bodies (w .many) (w .proper)) (w .line))
+      ∙ rw (odd-digit (levelBefore line), bodies-back bodies (w .many) (even-read bodies (w .many) (w .bodies) empty)) (w .line))
 
 -- ---- inverting every symbol
 

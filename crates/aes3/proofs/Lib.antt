@@ -1,2 +1,3 @@
 pub mod BlockTrips
+pub mod FaultMap
 pub mod FoundStart

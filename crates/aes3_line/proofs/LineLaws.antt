@@ -1,5 +1,5 @@
--- A subframe there and back: what is written from a body is read as this body, what is read is written as the same
--- symbols, and an even body leaves the level as it was. Assumes nothing.
+-- A subframe there and back: what is written from a body, even or odd, is read as this body, what is read is written as
+-- the same symbols, and an even body leaves the level as it was. Assumes nothing.
 use mathlib.Core.Path.{_≡_, refl, sym, ap, _∙_}
 use mathlib.Core.Bool.{Bool, true}
 use mathlib.Core.List.{_++_}
@@ -17,7 +17,7 @@ use Rattle.answer.specs.Demand.{AllMet, Stops, _&_}
 use Rattle.answer.proofs.Chains.{met, passing, stopped}
 use Rattle.line.specs.Biphase.{biphase, left, changing, held}
 use Rattle.line.proofs.BiphaseLaws.{length-held, held-biphase, changing-biphase, biphase-held, left-append, level-kept}
-use Rattle.subframe.specs.Body.{Proper, slots, parityOf}
+use Rattle.subframe.specs.Body.{IsBody, Proper, slots}
 use Rattle.subframe.proofs.BodyLaws.{parity-slots, slots-bits}
 use Rattle.aes3_line.specs.Subframe.{preamble, subframe, bodyHeld, subframeDemands, subframeRead}
 use Rattle.aes3_line.proofs.Preambles.{length-preamble, left-preamble}
@@ -43,13 +43,13 @@ window-first p s h = ap big (part-in (p ++ s) 0 8 (rw length-append (omega arith
 
 -- ---- there and back
 
--- a proper body is what its slots hold
-slots-hold : (l : Bool) (b : ℕ) → Proper b → bodyHeld (biphase l (slots b)) ≡ b
+-- a body is what its slots hold
+slots-hold : (l : Bool) (b : ℕ) → IsBody b → bodyHeld (biphase l (slots b)) ≡ b
 slots-hold l b p =
     let n : little (slots b) ≡ b / 2 ^ 4 = rw slots-bits (little-bits 28 (b / 2 ^ 4) (omega (arith, p .small))) in
     body-held (biphase l (slots b)) ∙ rw (held-biphase l (slots b), n) (omega (arith, p .low))
 
-pub read-written : (i : ℕ) (l : Bool) (b : ℕ) → Proper b → subframeRead i l (subframe i l b) ≡ accepted b
+pub read-written : (i : ℕ) (l : Bool) (b : ℕ) → IsBody b → subframeRead i l (subframe i l b) ≡ accepted b
 unfolding subframe
 read-written i l b p =
     let n = length-preamble i l in
@@ -60,7 +60,6 @@ read-written i l b p =
     subframe-met i l (preamble i l ++ s)
     (eq-eqb _ _ (window-first (preamble i l) s n)
     & (rw (take-at (preamble i l) s 8 n, d) (changing-biphase k (slots b)))
-    & eq-eqb _ 0 (ap parityOf h ∙ p .evenly)
     & tt)
     ∙ ap accepted h
 
@@ -68,7 +67,6 @@ read-written i l b p =
 pub record Accepted (i : ℕ) (l : Bool) (s : Row) (b : ℕ) : Type 0 where
   pub opens : window s 0 8 ≡ big (preamble i l)
   pub changes : changing (left l (take 8 s)) (drop 8 s) ≡ true
-  pub evenly : parityOf b ≡ 0
   pub body : bodyHeld (drop 8 s) ≡ b
 
 accepting : (i : ℕ) (l : Bool) (s : Row) (b : ℕ) → subframeRead i l s ≡ accepted b → Accepted i l s b
@@ -78,7 +76,6 @@ accepting i l s b e =
     record {
       opens = eqb-true _ _ (m .0 .0);
       changes = m .0 .1 .0;
-      evenly = ap parityOf (sym (m .1)) ∙ eqb-true _ 0 (m .0 .1 .1 .0);
       body = m .1;
     }
 
@@ -97,12 +94,8 @@ module _ (i : ℕ) (l : Bool) (s : Row) (b : ℕ) (n : length s ≡ 64) (e : sub
       let q : b / 2 ^ 4 ≡ little (held (drop 8 s)) = omega (arith, value) in
       slots-bits b ∙ rw q (rw long at (bits-little (held (drop 8 s))))
 
-  pub read-proper : Proper b
-  read-proper = record {
-    small = omega (arith, value, rw long at (little-lt (held (drop 8 s))));
-    low = omega (arith, value);
-    evenly = a .evenly;
-  }
+  pub read-body : IsBody b
+  read-body = record { small = omega (arith, value, rw long at (little-lt (held (drop 8 s)))); low = omega (arith, value) }
 
   preamble-read : preamble i l ≡ take 8 s
   unfolding window
@@ -123,7 +116,3 @@ level-returns i l b p =
     let even : parity (slots b) ≡ 0 = sym (parity-slots b) ∙ p .evenly in
     left-append l (preamble i l) (biphase (left l (preamble i l)) (slots b))
     ∙ rw (left-preamble i l) (level-kept l (slots b) (rw (slots-bits b, length-bits 28 (b / 2 ^ 4)) refl) even)
-
--- and so does a subframe that is accepted
-pub level-read : (i : ℕ) (l : Bool) (s : Row) (b : ℕ) → length s ≡ 64 → subframeRead i l s ≡ accepted b → left l s ≡ l
-level-read i l s b n e = ap (left l) (sym (written-read i l s b n e)) ∙ level-returns i l b (read-proper i l s b n e)

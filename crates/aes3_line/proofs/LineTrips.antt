@@ -16,16 +16,16 @@ use Rattle.answer.specs.Answer.{Answer, Answer.accepted, Answer.refused}
 use Rattle.answer.proofs.Chains.{not-both}
 use Rattle.line.specs.Biphase.{left}
 use Rattle.line.proofs.BiphaseLaws.{left-none, left-append}
-use Rattle.subframe.specs.Body.{Proper}
-use Rattle.subframe.proofs.BodyTrips.{proper-zero}
+use Rattle.subframe.specs.Body.{IsBody, Proper}
+use Rattle.subframe.proofs.BodyTrips.{proper-zero, proper-body}
 use Rattle.aes3_line.specs.Subframe.{subframe, subframeRead}
 use Rattle.aes3_line.specs.Line.{lineFrom, leading, bodiesFrom, levelBefore, bodiesOn}
 use Rattle.aes3_line.proofs.Preambles.{length-subframe, subframe-begins}
-use Rattle.aes3_line.proofs.LineLaws.{read-written, read-proper, written-read, level-returns}
+use Rattle.aes3_line.proofs.LineLaws.{read-written, read-body, written-read, level-returns}
 
 -- every number of a list is a body
 abbrev pub Each : List ℕ → Type 0
-Each bodies = (i : ℕ) → Proper (getD bodies i 0)
+Each bodies = (i : ℕ) → IsBody (getD bodies i 0)
 
 pub length-line : (i : ℕ) (l : Bool) (bs : List ℕ) → length (lineFrom i l bs) ≡ length bs * 8
 unfolding lineFrom
@@ -41,7 +41,7 @@ symbols-line i l b rest =
     ∙ ap (λ (r : Row). r ++ symbols rest) (symbols-octets 8 (subframe i l b) ∙ part-all (subframe i l b) 64 (length-subframe i l b))
 
 -- a line of even bodies leaves the level as it was
-pub line-level : (i : ℕ) (l : Bool) (bs : List ℕ) → Each bs → left l (symbols (lineFrom i l bs)) ≡ l
+pub line-level : (i : ℕ) (l : Bool) (bs : List ℕ) → ((j : ℕ) → Proper (getD bs j 0)) → left l (symbols (lineFrom i l bs)) ≡ l
 unfolding lineFrom chain
 line-level i l [] p = left-none l
 line-level i l (b ∷ bs) p =
@@ -53,7 +53,7 @@ line-level i l (b ∷ bs) p =
     )
     (line-level (suc i) l bs (λ j. p (suc j)))
 
--- ---- reading what was written
+-- ---- reading what was written, from bodies even or odd
 
 read-from : (i : ℕ) (l : Bool) (bs : List ℕ) → Each bs → bodiesFrom (length bs) i l (lineFrom i l bs) ≡ accepted bs
 unfolding bodiesFrom lineFrom leading
@@ -96,10 +96,10 @@ led (refused n p) g bs e = not-both e
 -- what was read of n subframes: n bodies, of which this line is written
 pub record WasRead (n i : ℕ) (l : Bool) (os bs : List ℕ) : Type 0 where
   pub many : length bs ≡ n
-  pub proper : Each bs
+  pub bodies : Each bs
   pub line : lineFrom i l bs ≡ os
 
-each-more : (b : ℕ) (t : List ℕ) → Proper b → Each t → Each (b ∷ t)
+each-more : (b : ℕ) (t : List ℕ) → IsBody b → Each t → Each (b ∷ t)
 each-more b t p q zero = p
 each-more b t p q (suc i) = q i
 
@@ -107,7 +107,7 @@ was-read : (n i : ℕ) (l : Bool) (os bs : List ℕ) → length os ≡ n * 8 →
 unfolding bodiesFrom lineFrom
 was-read zero i l [] bs len h e =
     let z : _≡_ {A = List ℕ} [] bs = cc in
-    subst (λ (t : List ℕ). WasRead 0 i l [] t) z (record { many = refl; proper = λ j. proper-zero; line = refl })
+    subst (λ (t : List ℕ). WasRead 0 i l [] t) z (record { many = refl; bodies = λ j. proper-body 0 proper-zero; line = refl })
 was-read zero i l (o ∷ os) bs len h e = absurd (omega arith)
 was-read (suc m) i l os bs len h e =
     let f = take 8 os in
@@ -120,7 +120,7 @@ was-read (suc m) i l os bs len h e =
     was-read m (suc i) (left l (symbols f)) (drop 8 os) (j .1) (rw length-drop (omega arith)) (below-drop 256 8 os h) (j .3) in
     record {
       many = ap length (sym (j .4)) ∙ ap suc (r .many);
-      proper = subst Each (j .4) (each-more (j .0) (j .1) (read-proper i l (symbols f) (j .0) n (j .2)) (r .proper));
+      bodies = subst Each (j .4) (each-more (j .0) (j .1) (read-body i l (symbols f) (j .0) n (j .2)) (r .bodies));
       line = rw (← j .4, w, o, r .line) (take-append-drop 8 os);
     }
 

@@ -7,15 +7,17 @@ use native.Mathlib.Omega.{arith}
 use native.Mathlib.Numerals.{add-one}
 use lib.ListN.{length, take, drop, set, getD, length-take, length-drop, drop-of-length-le}
 use lib.Seq.{drop-cons, drop-drop, take-suc-set, take-all}
-use Rattle.bits.specs.Row.{odd, bigBits}
+use Rattle.bits.specs.Row.{Row, odd, bigBits, big}
 use Rattle.bits.specs.Pack.{chain, octets, symbols}
+use Rattle.bits.proofs.Rows.{bigBits-big}
 use Rattle.bits.proofs.Packing.{highest, length-chain}
 use Rattle.answer.specs.Answer.{Answer, Answer.accepted, Answer.refused}
 use Rattle.line.specs.Biphase.{left}
+use Rattle.line.proofs.BiphaseLaws.{left-big}
 use Rattle.subframe.specs.Body.{Proper}
 use Rattle.aes3_line.specs.Subframe.{subframe, subframeRead}
 use Rattle.aes3_line.specs.Line.{lineFrom, leading, bodiesFrom, levelBefore, bodiesOn}
-use Rattle.aes3_line.proofs.LineLaws.{level-returns, level-read}
+use Rattle.aes3_line.proofs.LineLaws.{level-returns}
 
 -- ---- writing
 
@@ -29,7 +31,7 @@ pub none-written : (bodies : List ℕ) (i : ℕ) (l : Bool) → length bodies �
 unfolding lineFrom
 none-written bodies i l h = rw (drop-of-length-le bodies {i = i} h)
 
--- ---- the level at the start
+-- ---- the level at the start, and after a subframe
 
 first-level : (line : List ℕ) → 0 < length line → levelBefore line ≡ not (odd (getD line 0 0 / 128))
 unfolding levelBefore chain bigBits
@@ -43,6 +45,11 @@ opposite (suc (suc y)) h = absurd (omega arith)
 
 pub level-start : (line : List ℕ) → 0 < length line → getD line 0 0 < 256 → odd (1 - getD line 0 0 / 128) ≡ levelBefore line
 level-start line h o = opposite (getD line 0 0 / 128) (omega arith) ∙ sym (first-level line h)
+
+-- the level that symbols leave is the lowest bit of their number
+left-whole : (l : Bool) (r : Row) → 0 < length r → left l r ≡ odd (big r)
+left-whole l [] h = absurd (omega arith)
+left-whole l (a ∷ s) h = left-big l a s
 
 -- ---- bodies that were read already, in front of what reading the rest gives
 
@@ -86,13 +93,21 @@ module _ (line : List ℕ) (i level : ℕ) (h : i < 384) (len : length line ≡ 
       let d : (i + 1) * 8 ≡ i * 8 + 8 = omega arith in
       rw (eight, m, d, add-one i, ← drop-drop 8 (i * 8) line)
 
-  -- an accepted subframe leaves the level as it was
-  pub read-turn : (bodies : List ℕ) (b : ℕ) (whole : Answer (List ℕ)) → i < length bodies → subframeRead i (odd level) (symbols lent) ≡ accepted b
-      → front (take i bodies) (bodiesFrom (384 - i) i (odd level) (drop (i * 8) line)) ≡ whole
-      → front (take (i + 1) (set bodies i b)) (later (odd level)) ≡ whole
-  read-turn bodies b whole m e q =
-      let n : length (symbols lent) ≡ 64 = length-chain (highest 8) lent ∙ rw length-lent in
-      front-more bodies i b (later (odd level)) m ∙ rw (next-read, level-read i (odd level) (symbols lent) b n e, e) at q
+  -- its 64 symbols, as a number and back
+  module _ (w : ℕ) (is : w ≡ big (symbols lent)) where
+    long : length (symbols lent) ≡ 64
+    long = length-chain (highest 8) lent ∙ rw length-lent
+
+    pub lent-symbols : bigBits 64 w ≡ symbols lent
+    lent-symbols = ap (bigBits 64) is ∙ rw long at (bigBits-big (symbols lent))
+
+    -- the next one is read after the level that stands on the line
+    pub read-turn : (bodies : List ℕ) (b : ℕ) (whole : Answer (List ℕ)) → i < length bodies → subframeRead i (odd level) (symbols lent) ≡ accepted b
+        → front (take i bodies) (bodiesFrom (384 - i) i (odd level) (drop (i * 8) line)) ≡ whole
+        → front (take (i + 1) (set bodies i b)) (later (odd w)) ≡ whole
+    read-turn bodies b whole m e q =
+        let left-lent : left (odd level) (symbols lent) ≡ odd w = left-whole (odd level) (symbols lent) (omega (arith, long)) ∙ ap odd (sym is) in
+        front-more bodies i b (later (odd w)) m ∙ rw (next-read, left-lent, e) at q
 
   pub read-stop : (bodies : List ℕ) (n p : ℕ) (whole : Answer (List ℕ)) → subframeRead i (odd level) (symbols lent) ≡ refused n p
       → front (take i bodies) (bodiesFrom (384 - i) i (odd level) (drop (i * 8) line)) ≡ whole → refused n p ≡ whole

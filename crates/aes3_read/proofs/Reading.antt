@@ -19,7 +19,6 @@ use Rattle.line.specs.Biphase.{left, changing, held}
 use Rattle.line.proofs.BiphaseLaws.{length-held}
 use Rattle.line.proofs.BiphaseOctets.{nibble, left-octet}
 use Rattle.line.proofs.BiphaseWords.{changing-mask, bigBits-split, held-word}
-use Rattle.subframe.specs.Body.{parityOf}
 use Rattle.aes3_line.specs.Subframe.{due, preamble, bodyHeld, subframeRead}
 use Rattle.aes3_line.proofs.Preambles.{preamble-0}
 use Rattle.aes3_line.proofs.LineLaws.{subframe-met, subframe-stops, body-held, window-first}
@@ -77,24 +76,11 @@ module _ (i w : ℕ) (small : w < 2 ^ 64) where
     answer-8 h = sym (subframe-stops i false symbols (later (opens ∙ eq-eqb top (big (due i)) m) (fails (changes ∙ ne-eqb changed 48038396025285290 h))))
 
     -- the body that was taken out
-    module _ (h : changed ≡ 48038396025285290) (d p : ℕ) (e : d ≡ little (held rest)) (q : p ≡ parityOf (d * 16)) where
-      body : bodyHeld (drop 8 symbols) ≡ d * 16
-      body = ap bodyHeld drop-8 ∙ body-held rest ∙ ap (λ (n : ℕ). n * 16) (sym e)
-
-      odds : parityOf (bodyHeld (drop 8 symbols)) ≡ p
-      odds = ap parityOf body ∙ sym q
-
-      pub answer-9 : (p ≡ 0 → ⊥) → refused 9 i ≡ subframeRead i false symbols
-      answer-9 o =
-          sym (subframe-stops i false symbols
-          (later (opens ∙ eq-eqb top (big (due i)) m) (later (changes ∙ eq-eqb changed 48038396025285290 h)
-          (fails (ap (λ (n : ℕ). eqb n 0) odds ∙ ne-eqb p 0 o)))))
-
-      pub answer-body : p ≡ 0 → accepted (d * 16) ≡ subframeRead i false symbols
-      answer-body o =
-          ap accepted (sym body)
-          ∙ sym (subframe-met i false symbols
-          ((opens ∙ eq-eqb top (big (due i)) m) & (changes ∙ eq-eqb changed 48038396025285290 h) & eq-eqb _ 0 (odds ∙ o) & tt))
+    pub answer-body : changed ≡ 48038396025285290 → (d : ℕ) → d ≡ little (held rest) → accepted (d * 16) ≡ subframeRead i false symbols
+    answer-body h d e =
+        let body : bodyHeld (drop 8 symbols) ≡ d * 16 = ap bodyHeld drop-8 ∙ body-held rest ∙ ap (λ (n : ℕ). n * 16) (sym e) in
+        ap accepted (sym body)
+        ∙ sym (subframe-met i false symbols ((opens ∙ eq-eqb top (big (due i)) m) & (changes ∙ eq-eqb changed 48038396025285290 h) & tt))
 
 pub held-small : (w : ℕ) → little (held (bigBits 56 w)) < 268435456
 held-small w = rw (length-held 28 (bigBits 56 w) (length-bigBits 56 w)) at (little-lt (held (bigBits 56 w)))

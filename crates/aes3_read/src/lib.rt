@@ -4,7 +4,6 @@ ghost use mathlib.Core.Bool.{false};
 ghost use Prim.Native.Nat.{_<_};
 ghost use lib.ListN.{length};
 ghost use Rattle.bits.specs.Row.{odd, digit, bigBits, little};
-ghost use Rattle.bits.specs.Pack.{symbols};
 ghost use Rattle.answer.specs.Answer.{mapped, verdict, after};
 ghost use Rattle.answer.specs.Said.{verdictSaid, numberSaid};
 ghost use Rattle.line.specs.Biphase.{held};
@@ -51,7 +50,7 @@ fn read_slots(table: &[u8], w: u64) -> u32
     a + b * 16 + c * 256 + d * 4096 + e * 65536 + f * 1048576 + g * 16777216
 }
 
-// 64 symbols read as subframe i after level 0.
+// 64 symbols read as subframe i after level 0: its body, even or odd.
 fn read_word(table: &[u8], i: usize, w: u64) -> NumberAnswer
     requires { ⌜ (now table ≡ heldTable) × (i < 384) ⌝ }
     ensures { λ r. ⌜ numberSaid r ≡ subframeRead i false (bigBits 64 w) ⌝ }
@@ -69,22 +68,15 @@ fn read_word(table: &[u8], i: usize, w: u64) -> NumberAnswer
             place: i as u32,
         };
     }
-    let body = read_slots(table, w) * 16;
-    if subframe::parity(body) != 0 {
-        return NumberAnswer::Refused {
-            number: 9,
-            place: i as u32,
-        };
-    }
-    NumberAnswer::Number(body)
+    NumberAnswer::Number(read_slots(table, w) * 16)
 }
 
-// Eight octets read as subframe i after a level.
-fn read_subframe(table: &[u8], i: usize, level: u32, part: &[u8]) -> NumberAnswer
-    requires { ⌜ (now table ≡ heldTable) × (i < 384) × (length (now part) ≡ 8) ⌝ }
-    ensures { λ r. ⌜ numberSaid r ≡ subframeRead i (odd level) (symbols (now (part .entry))) ⌝ }
+// 64 symbols read as subframe i after symbols whose last is the lowest bit of `before`.
+fn read_subframe(table: &[u8], i: usize, before: u64, w: u64) -> NumberAnswer
+    requires { ⌜ (now table ≡ heldTable) × (i < 384) ⌝ }
+    ensures { λ r. ⌜ numberSaid r ≡ subframeRead i (odd before) (bigBits 64 w) ⌝ }
 {
-    read_word(table, i, aes3_line::after_level(level, line::word(part, 0)))
+    read_word(table, i, aes3_line::after_level((before % 2) as u32, w))
 }
 
 // A subframe's answer without its body.
@@ -97,22 +89,26 @@ fn without_body(answer: NumberAnswer) -> Verdict
     }
 }
 
-// All subframes of a line, their bodies into a buffer; after a refusal the buffer holds those before it. A subframe
-// that is accepted leaves the level as it was.
+// All subframes of a line, their bodies into a buffer; after a refusal the buffer holds those before it. The level before
+// a subframe is the last symbol of the one before, as it stands on the line: that one's word is carried on, since an
+// octet loaded by itself would keep the word from being loaded whole.
 fn decode(table: &[u8], line: &[u8], bodies: &mut [u32]) -> Verdict
     requires { ⌜ (now table ≡ heldTable) × (length (now line) ≡ 3072) × (length (now bodies) ≡ 384) ⌝ }
     ensures { λ r. ⌜ decoded r (now (bodies .exit)) ≡ bodiesOn (now (line .entry)) ⌝ }
 {
-    let level = 1 - line[0] as u32 / 128;
+    let start = 1 - line[0] as u64 / 128;
+    let mut before = start;
     let mut i: usize = 0;
     while i < 384 {
         let a = i * 8;
         let e = a + 8;
-        let answer = read_subframe(table, i, level, &line[a..e]);
+        let w = line::word(&line[a..e], 0);
+        let answer = read_subframe(table, i, before, w);
         let NumberAnswer::Number(b) = answer else {
             return without_body(answer);
         };
         bodies[i] = b;
+        before = w;
         i += 1;
     }
     Verdict::Accepted

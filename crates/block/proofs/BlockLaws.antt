@@ -20,11 +20,12 @@ use Rattle.answer.specs.Answer.{Answer, Answer.accepted, Answer.refused, told, 
 use Rattle.answer.specs.Demand.{_&_}
 use Rattle.answer.proofs.Chains.{passing}
 use Rattle.answer.proofs.Residues.{whole}
-use Rattle.subframe.specs.Body.{Proper, bodyOf, bodyWritten, sampleOf}
-use Rattle.block.specs.Side.{columns, columnBit, columnLength, sideLength, sideBit, columnIn, columnOf}
-use Rattle.subframe.proofs.BodyTrips.{written-in, written-proper, proper-zero, read-written, Reading, reading, write-fields}
+use Rattle.subframe.specs.Body.{parityOf, IsBody, Proper, bodyOf, bodyWritten, sampleOf}
+use Rattle.block.specs.Side.{validityOf, validity, user, status, fault, columns, columnBit, columnLength, sideLength, sideBit, columnIn, columnOf}
+use Rattle.subframe.proofs.BodyTrips.{written-in, written-proper, proper-zero, read-written, Reading, reading, write-fields, body-proper}
 use Rattle.block.proofs.SideLaws.{column-lt, side-lt, side-in, column-at, row-column, written-back, getD-columnIn, length-column}
 use Rattle.block.specs.Block.{sideAt, bodyAt, bodiesOf, samplesOf, channelRow, sideOf, fillDemands, blockFilled}
+use Rattle.block.specs.Check.{Faultless}
 
 -- every sample is one of 24 bits
 abbrev pub InRange : List ℤ → Type 0
@@ -150,12 +151,14 @@ module _ (s : List ℤ) (t : List ℕ) (ranges : InRange s) where
       subst (λ (x : ℕ). Reading x (z, sideAt t 0 i, sideAt t 1 i, sideAt t 2 i)) (sym (body-in s t i (ranges i)))
       (reading b (z, sideAt t 0 i, sideAt t 1 i, sideAt t 2 i) (read-written z (sideAt t 0 i) (sideAt t 1 i) (sideAt t 2 i) b e))
 
-  carried : (i k : ℕ) → k < columns → columnBit k (bodyAt s t i) ≡ sideAt t k i
+  -- and is even
+  carried : Faultless t → (i k : ℕ) → i < 384 → k < columns → columnBit k (bodyAt s t i) ≡ sideAt t k i
   unfolding columnBit
-  carried i zero h = ap (λ f. f .1) (carries i .fields)
-  carried i (suc zero) h = ap (λ f. f .2) (carries i .fields)
-  carried i (suc (suc zero)) h = ap (λ f. f .3) (carries i .fields)
-  carried i (suc (suc (suc n))) h = absurd (omega arith)
+  carried none i zero hi h = rw (carries i .evenly) (ap (λ f. f .1) (carries i .fields))
+  carried none i (suc zero) hi h = ap (λ f. f .2) (carries i .fields)
+  carried none i (suc (suc zero)) hi h = ap (λ f. f .3) (carries i .fields)
+  carried none i (suc (suc (suc zero))) hi h = carries i .evenly ∙ sym (none i hi)
+  carried none i (suc (suc (suc (suc n)))) hi h = absurd (omega arith)
 
   pub samples-back : length s ≡ 384 → samplesOf (bodiesOf s t) ≡ s
   unfolding samplesOf
@@ -164,27 +167,28 @@ module _ (s : List ℤ) (t : List ℕ) (ranges : InRange s) where
       (λ i h. ap sampleOf (getD-bodies s t i h) ∙ ap (λ f. f .0) (carries i .fields))
 
   -- the bit of a frame in a column
-  column-bit : (k f : ℕ) → k < 2 * columns → f < 192
+  column-bit : Faultless t → (k f : ℕ) → k < 2 * columns → f < 192
       → odd (columnBit (k % columns) (getD (bodiesOf s t) (2 * f + k / columns) 0)) ≡ odd (sideBit t k f)
   unfolding sideAt
-  column-bit k f hk hf =
+  column-bit none k f hk hf =
       let i = 2 * f + k / columns in
       let hi : i < 384 = omega arith in
       let p : columns * (i % 2) + k % columns ≡ k = omega arith in
       let q : i / 2 ≡ f = omega arith in
       ap (λ (b : ℕ). odd (columnBit (k % columns) b)) (getD-bodies s t i hi)
-      ∙ ap odd (carried i (k % columns) (omega arith) ∙ ap₂ (sideBit t) p q)
+      ∙ ap odd (carried none i (k % columns) hi (omega arith) ∙ ap₂ (sideBit t) p q)
 
-  column-back : length t ≡ sideLength → Below 256 t → (k : ℕ) → k < 2 * columns → columnRead (bodiesOf s t) k ≡ columnIn t k
-  column-back n octets k hk =
+  column-back : length t ≡ sideLength → Below 256 t → Faultless t → (k : ℕ) → k < 2 * columns → columnRead (bodiesOf s t) k ≡ columnIn t k
+  column-back n octets none k hk =
       let holds = columnBit (k % columns) in
       ap columnOf (sym (listed-all 192 (λ f. odd (sideBit t k f)) (rowOf (bodiesOf s t) k) false
       (length-channel-row holds (bodiesOf s t) (k / columns))
-      (λ f hf. sym (getD-channel-row holds (bodiesOf s t) (k / columns) f hf ∙ column-bit k f hk hf))))
+      (λ f hf. sym (getD-channel-row holds (bodiesOf s t) (k / columns) f hf ∙ column-bit none k f hk hf))))
       ∙ written-back t n k hk octets
 
-  pub side-back : length t ≡ sideLength → Below 256 t → sideOf (bodiesOf s t) ≡ t
-  side-back n octets =
+  -- where E is empty
+  pub side-back : length t ≡ sideLength → Below 256 t → Faultless t → sideOf (bodiesOf s t) ≡ t
+  side-back n octets none =
       ext-getD 0 (sideOf (bodiesOf s t)) t (length-side (bodiesOf s t) ∙ sym n) (λ i h. same i (rw length-side at h))
     where
       same : (i : ℕ) → i < sideLength → getD (sideOf (bodiesOf s t)) i 0 ≡ getD t i 0
@@ -194,7 +198,7 @@ module _ (s : List ℤ) (t : List ℕ) (ranges : InRange s) where
           let hj : i % columnLength < columnLength = omega arith in
           ap (λ (m : ℕ). getD (sideOf (bodiesOf s t)) m 0) e
           ∙ getD-side (bodiesOf s t) (i / columnLength) (i % columnLength) hk hj
-          ∙ ap (λ (l : List ℕ). getD l (i % columnLength) 0) (column-back n octets (i / columnLength) hk)
+          ∙ ap (λ (l : List ℕ). getD l (i % columnLength) 0) (column-back n octets none (i / columnLength) hk)
           ∙ getD-columnIn t (i / columnLength) (i % columnLength) hj
           ∙ ap (λ (m : ℕ). getD t m 0) (sym e)
 
@@ -209,14 +213,40 @@ module _ (b : List ℕ) where
       let q : 2 * (i / 2) + c / columns ≡ i = omega arith in
       side-of b c (i / 2) (omega arith) (omega arith) ∙ ap₂ (λ (m j : ℕ). columnBit m (getD b j 0)) p q
 
+  -- V, U, C and E of each subframe, by its body
+  module _ (i : ℕ) (h : i < 384) where
+    pub V-read : sideAt (sideOf b) validity i ≡ validityOf (getD b i 0)
+    unfolding columnBit
+    V-read = side-read i validity h (omega arith)
+
+    pub U-read : sideAt (sideOf b) user i ≡ bit 29 (getD b i 0)
+    unfolding columnBit
+    U-read = side-read i user h (omega arith)
+
+    pub C-read : sideAt (sideOf b) status i ≡ bit 30 (getD b i 0)
+    unfolding columnBit
+    C-read = side-read i status h (omega arith)
+
+    pub E-read : sideAt (sideOf b) fault i ≡ parityOf (getD b i 0)
+    unfolding columnBit
+    E-read = side-read i fault h (omega arith)
+
+  -- where E is empty the bodies are even
+  pub even-read : length b ≡ 384 → ((i : ℕ) → IsBody (getD b i 0)) → Faultless (sideOf b) → Bodies b
+  even-read n all none i =
+      ⊎-elim
+      (λ (h : 384 ≤ i). subst Proper (sym (List·getD-eq-default b 0 {n = i} (rw n h))) proper-zero)
+      (λ (h : i < 384). body-proper (getD b i 0) (all i) (sym (E-read i h) ∙ none i h))
+      (order 384 i)
+
   pub bodies-back : length b ≡ 384 → Bodies b → bodiesOf (samplesOf b) (sideOf b) ≡ b
-  unfolding bodiesOf columnBit
+  unfolding bodiesOf
   bodies-back n all = listed-all 384 (bodyAt (samplesOf b) (sideOf b)) b 0 n (λ i h. same i h)
     where
       same : (i : ℕ) → i < 384 → bodyAt (samplesOf b) (sideOf b) i ≡ getD b i 0
       same i h =
-          body-told (samplesOf b) (sideOf b) i (getD-samples b i h) (side-read i 0 h (omega arith)) (side-read i 1 h (omega arith))
-          (side-read i 2 h (omega arith)) (write-fields (getD b i 0) (all i))
+          body-told (samplesOf b) (sideOf b) i (getD-samples b i h) (V-read i h ∙ rw (all i .evenly)) (U-read i h) (C-read i h)
+          (write-fields (getD b i 0) (all i))
 
 -- ---- filling
 

@@ -9,12 +9,14 @@ use Prim.Native.Nat.{ℕ, zero, suc, _+_, _-_, _≤_, _<_}
 use native.Mathlib.Numerals.{add-one}
 use native.Mathlib.Omega.{arith}
 use borrow.Author.Tests.{eq-eqb, eqb-true, lt-ltb, not-false}
+use lib.Dec.{eqb}
 use lib.IntN.{ℤ, pos}
 use lib.ListN.{length, getD, List·getD-eq-default}
 use Rattle.bits.specs.Pick.{first}
 use Rattle.bits.specs.Row.{digit, count}
 use Rattle.bits.specs.Listed.{listed}
-use Rattle.bits.proofs.Tests.{pick-cases, order}
+use Rattle.bits.proofs.Tests.{pick-cases, no-yes, order}
+use Rattle.bits.proofs.Digits.{digit-cases}
 use Rattle.answer.specs.Answer.{Answer.accepted, Answer.refused}
 use Rattle.answer.specs.Demand.{Demand, Demand.findsNone, Met, AllMet, Stops, _&_}
 use Rattle.answer.specs.Demand.Stops.{found}
@@ -22,10 +24,10 @@ use Rattle.answer.proofs.Chains.{met, passing, stops, beyond}
 use Rattle.codes.specs.Crcc.{crccRight}
 use Rattle.subframe.specs.Signed.{inRange}
 use Rattle.subframe.proofs.BodyTrips.{sample-in}
-use Rattle.block.specs.Side.{sideLength}
-use Rattle.block.specs.Block.{samplesOf, sideOf}
-use Rattle.block.specs.Check.{statusOf, statusRight, outside, consumer, wrong, unmarked, overlong, statusDemands, blockDemands, checkDemands, statusChecked, checked}
-use Rattle.block.proofs.BlockLaws.{InRange, length-samples, getD-samples, length-side}
+use Rattle.block.specs.Side.{fault, sideLength}
+use Rattle.block.specs.Block.{sideAt, samplesOf, sideOf}
+use Rattle.block.specs.Check.{statusOf, statusRight, Faultless, faulty, outside, consumer, wrong, unmarked, overlong, statusDemands, blockDemands, checkDemands, statusChecked, checked}
+use Rattle.block.proofs.BlockLaws.{InRange, length-samples, getD-samples, length-side, side-digit}
 
 -- ---- counting, which comes before a search
 
@@ -65,6 +67,7 @@ module _ (p : ℕ → Bool) where
 pub record Passes (s : List ℤ) (t : List ℕ) : Type 0 where
   pub samples : length s ≡ 384
   pub side : length t ≡ sideLength
+  pub faultless : Faultless t
   pub ranges : InRange s
   pub professional : (channel : ℕ) → channel < 2 → consumer t channel ≡ false
   pub right : (channel : ℕ) → channel < 2 → crccRight (statusOf channel t) ≡ true
@@ -77,6 +80,17 @@ in-range s n all i =
     ⊎-elim (λ (h : 384 ≤ i). ap (inRange 24) (List·getD-eq-default s (pos 0) {n = i} (rw n h)))
     (λ (h : i < 384). not-false (inRange 24 (getD s i (pos 0))) (all i (omega arith) (omega arith))) (order 384 i)
 
+-- where no E is set each is 0
+none-faulty : (t : List ℕ) → ((j : ℕ) → 0 ≤ j → j < 0 + 384 → faulty t j ≡ false) → Faultless t
+unfolding faulty
+none-faulty t all i h =
+    digit-cases (λ (d : ℕ). eqb d 1 ≡ false → d ≡ 0) (λ e. refl) (λ e. no-yes (eqb 1 1) e refl) (sideAt t fault i) (side-digit t fault i)
+    (all i (omega arith) (omega arith))
+
+faultless-none : (t : List ℕ) → Faultless t → (j : ℕ) → 0 ≤ j → j < 0 + 384 → faulty t j ≡ false
+unfolding faulty
+faultless-none t none j l h = rw (none j (omega arith))
+
 -- lengths and demands that are met
 pub met-passes : (s : List ℤ) (t : List ℕ) → AllMet (checkDemands s t) → Passes s t
 unfolding wrong
@@ -85,11 +99,12 @@ met-passes s t m =
     record {
       samples = n;
       side = eqb-true (length t) sideLength (m .1 .0);
-      ranges = in-range s n (m .1 .1 .0);
-      professional = λ ch h. m .1 .1 .1 .0 ch (omega arith) (omega arith);
-      right = λ ch h. not-false (crccRight (statusOf ch t)) (m .1 .1 .1 .1 .0 ch (omega arith) (omega arith));
-      marked = λ ch h. m .1 .1 .1 .1 .1 .0 ch (omega arith) (omega arith);
-      within = λ i h. m .1 .1 .1 .1 .1 .1 .0 i (omega arith) (omega arith);
+      faultless = none-faulty t (m .1 .1 .0);
+      ranges = in-range s n (m .1 .1 .1 .0);
+      professional = λ ch h. m .1 .1 .1 .1 .0 ch (omega arith) (omega arith);
+      right = λ ch h. not-false (crccRight (statusOf ch t)) (m .1 .1 .1 .1 .1 .0 ch (omega arith) (omega arith));
+      marked = λ ch h. m .1 .1 .1 .1 .1 .1 .0 ch (omega arith) (omega arith);
+      within = λ i h. m .1 .1 .1 .1 .1 .1 .1 .0 i (omega arith) (omega arith);
     }
 
 module _ (s : List ℤ) (t : List ℕ) where
@@ -112,19 +127,21 @@ pub right-back : (s : List ℤ) (t : List ℕ) → Passes s t → (channel : ℕ
 unfolding statusRight
 right-back s t p channel h = rw (eq-eqb (length t) sideLength (p .side), lt-ltb channel 2 h, p .right channel h)
 
--- ---- a block that was read meets all demands where its status does, and its samples keep to the declared lengths
+-- ---- a block that was read meets all demands where E is empty, its status does, and its samples keep to the declared
+-- lengths
 
 pub status-met : (t : List ℕ) → statusChecked t ≡ accepted tt → AllMet (statusDemands t)
 unfolding statusChecked
 status-met t e = met tt (statusDemands t) e .0
 
-pub read-met : (b : List ℕ) → statusChecked (sideOf b) ≡ accepted tt → ((i : ℕ) → i < 384 → overlong (samplesOf b) (sideOf b) i ≡ false)
-    → AllMet (checkDemands (samplesOf b) (sideOf b))
+pub read-met : (b : List ℕ) → Faultless (sideOf b) → statusChecked (sideOf b) ≡ accepted tt
+    → ((i : ℕ) → i < 384 → overlong (samplesOf b) (sideOf b) i ≡ false) → AllMet (checkDemands (samplesOf b) (sideOf b))
 unfolding outside
-read-met b e within =
+read-met b none e within =
     let m = status-met (sideOf b) e in
     eq-eqb (length (samplesOf b)) 384 (length-samples b)
     & eq-eqb (length (sideOf b)) sideLength (length-side b)
+    & faultless-none (sideOf b) none
     & (λ j l h. ap (λ (z : ℤ). not (inRange 24 z)) (getD-samples b j (omega arith)) ∙ ap not (sample-in (getD b j 0)))
     & m .0
     & m .1 .0

@@ -1,21 +1,26 @@
--- Eight frames of all columns at a time: one frame more below those that are there, and the table of slots 28 to 31.
--- Assumes nothing.
-use mathlib.Core.Path.{_≡_, refl, ap, _∙_}
+-- Eight frames of all columns at a time: one frame more below those that are there, and the table of slots 28 to 31 of
+-- even and of odd bodies. Assumes nothing.
+use mathlib.Core.Path.{_≡_, refl, sym, ap, _∙_}
 use mathlib.Core.Bool.{false}
 use mathlib.Core.List.{List, [], _∷_}
 use Prim.Native.Nat.{ℕ, suc, _+_, _-_, _*_, _/_, _%_, _^_, _≤_, _<_}
 use native.Mathlib.Nat.{pow-suc}
 use native.Mathlib.Numerals.{add-one}
 use native.Mathlib.Omega.{arith}
+use lib.Dec.{eqb}
 use lib.ListN.{length, getD}
 use lib.Pow.{pow-mono}
-use Rattle.bits.specs.Row.{digit, little}
+use Rattle.bits.specs.Pick.{pick}
+use Rattle.bits.specs.Row.{digit, bit, little}
 use Rattle.bits.specs.Window.{part}
 use Rattle.bits.specs.Listed.{listed}
+use Rattle.bits.proofs.Tests.{pick-cases}
 use Rattle.bits.proofs.Digits.{digit-odd}
 use Rattle.bits.proofs.Lists.{length-listed, getD-listed}
 use Rattle.bits.proofs.Rows.{little-lt}
 use Rattle.bits.proofs.Windows.{length-part}
+use Rattle.subframe.specs.Body.{parityOf}
+use Rattle.subframe.proofs.BodyLaws.{parity-lt}
 use Rattle.block.specs.Side.{columnBits}
 use Rattle.block.specs.Block.{channelRow}
 use Rattle.block.specs.Inner.{digitsOf, apartTable, gathered}
@@ -26,31 +31,58 @@ use Rattle.block.proofs.BlockLaws.{getD-channel-row}
 unfoldable pub entries : List ℕ
 entries =
     0 ∷ 1 ∷ 256 ∷ 257 ∷ 65536 ∷ 65537 ∷ 65792 ∷ 65793 ∷
-    0 ∷ 1 ∷ 256 ∷ 257 ∷ 65536 ∷ 65537 ∷ 65792 ∷ 65793 ∷ []
+    0 ∷ 1 ∷ 256 ∷ 257 ∷ 65536 ∷ 65537 ∷ 65792 ∷ 65793 ∷
+    16777217 ∷ 16777217 ∷ 16777473 ∷ 16777473 ∷ 16842753 ∷ 16842753 ∷ 16843009 ∷ 16843009 ∷
+    16777217 ∷ 16777217 ∷ 16777473 ∷ 16777473 ∷ 16842753 ∷ 16842753 ∷ 16843009 ∷ 16843009 ∷ []
 
 pub entries-right : entries ≡ apartTable
-unfolding entries apartTable listed digitsOf
+unfolding entries apartTable listed
 entries-right = refl
 
-pub length-apart : length apartTable ≡ 16
-unfolding apartTable
-length-apart = length-listed 0 16 (λ slots. digitsOf columnBits (slots * 2 ^ 28))
+abbrev rule : ℕ → ℕ
+rule x = pick (eqb (x / 16) 0) (bit 0 x) 1 + bit 1 x * 256 + bit 2 x * 256 ^ 2 + x / 16 * 256 ^ 3
 
--- the columns hold nothing below slot 28
-from-28 : (b : ℕ) → digitsOf columnBits (b / 2 ^ 28 * 2 ^ 28) ≡ digitsOf columnBits b
+pub length-apart : length apartTable ≡ 32
+unfolding apartTable
+length-apart = length-listed 0 32 rule
+
+weighed : (v u c e : ℕ) → v < 2 → u < 2 → c < 2 → e < 2
+    → v + u * 256 + c * 256 ^ 2 + e * 256 ^ 3 ≡ v % 2 + 256 * (u % 2 + 256 * (c % 2 + 256 * (e % 2 + 256 * 0)))
+weighed v u c e hv hu hc he = omega arith
+
+slot-29 : (b : ℕ) → b / 2 ^ 29 ≡ b / 2 ^ 28 / 2
+slot-29 b = omega arith
+
+slot-30 : (b : ℕ) → b / 2 ^ 30 ≡ b / 2 ^ 28 / 4
+slot-30 b = omega arith
+
+second : (d p : ℕ) → (d + p * 16) / 2 % 2 ≡ d / 2 % 2
+second d p = omega arith
+
+third : (d p : ℕ) → (d + p * 16) / 4 % 2 ≡ d / 4 % 2
+third d p = omega arith
+
+-- the columns hold of a body its slots 28 to 30 and whether it is odd
+by-rule : (b p : ℕ) → b < 2 ^ 32 → p < 2 → parityOf b ≡ p → rule (b / 2 ^ 28 + p * 16) ≡ digitsOf columnBits b
 unfolding digitsOf
-from-28 b =
-    let v : b / 2 ^ 28 * 2 ^ 28 / 2 ^ 28 ≡ b / 2 ^ 28 = omega arith in
-    let u : b / 2 ^ 28 * 2 ^ 28 / 2 ^ 29 ≡ b / 2 ^ 29 = omega arith in
-    let c : b / 2 ^ 28 * 2 ^ 28 / 2 ^ 30 ≡ b / 2 ^ 30 = omega arith in
-    rw (v, u, c)
+by-rule b p h hp e =
+    let x = b / 2 ^ 28 + p * 16 in
+    let q : x / 16 ≡ p = omega arith in
+    let v : bit 0 x ≡ bit 28 b = omega arith in
+    let u : bit 1 x ≡ bit 29 b = rw slot-29 (second (b / 2 ^ 28) p) in
+    let c : bit 2 x ≡ bit 30 b = rw slot-30 (third (b / 2 ^ 28) p) in
+    rw (e, q, v, u, c)
+    (weighed (pick (eqb p 0) (bit 28 b) 1) (bit 29 b) (bit 30 b) p
+    (pick-cases (λ n. n < 2) (eqb p 0) (bit 28 b) 1 (λ t. omega arith) (λ t. omega arith)) (omega arith) (omega arith) hp)
 
-pub entry : (table : List ℕ) (b : ℕ) → table ≡ apartTable → b < 2 ^ 32 → getD table (b / 2 ^ 28) 0 ≡ digitsOf columnBits b
+pub entry : (table : List ℕ) (b p : ℕ) → table ≡ apartTable → b < 2 ^ 32 → p ≡ parityOf b
+    → getD table (b / 2 ^ 28 + p * 16) 0 ≡ digitsOf columnBits b
 unfolding apartTable
-entry table b e h =
-    ap (λ (t : List ℕ). getD t (b / 2 ^ 28) 0) e
-    ∙ getD-listed 16 (λ slots. digitsOf columnBits (slots * 2 ^ 28)) (b / 2 ^ 28) 0 (omega arith)
-    ∙ from-28 b
+entry table b p e h q =
+    let l : p < 2 = rw q (parity-lt b) in
+    ap (λ (t : List ℕ). getD t (b / 2 ^ 28 + p * 16) 0) e
+    ∙ getD-listed 32 rule (b / 2 ^ 28 + p * 16) 0 (omega arith)
+    ∙ by-rule b p h l (sym q)
 
 pub digits-lt : (gs : List (ℕ → ℕ)) (b : ℕ) → digitsOf gs b < 256 ^ length gs
 unfolding digitsOf

@@ -20,6 +20,8 @@ use Rattle.bits.proofs.Packing.{lowest, length-chain, length-pack, getD-pack, p
 use Rattle.bits.proofs.Filling.{getD-paste, getD-paste-below, getD-paste-above}
 use Rattle.bits.proofs.Bounds.{below-take, below-drop}
 use Rattle.bits.proofs.Lists.{listed-all}
+use Rattle.subframe.specs.Body.{evenBody}
+use Rattle.subframe.proofs.BodyLaws.{parity-lt}
 use Rattle.block.specs.Side.{columns, columnBit, columnLength, sideLength, sideBit, columnIn, columnRow, columnOf}
 
 -- ---- a column there and back
@@ -58,10 +60,11 @@ column-at column f h =
 
 pub column-lt : (k body : ℕ) → columnBit k body < 2
 unfolding columnBit
-column-lt zero body = omega arith
+column-lt zero body = pick-cases (λ n. n < 2) (evenBody body) (bit 28 body) 1 (λ e. omega arith) (λ e. omega arith)
 column-lt (suc zero) body = omega arith
 column-lt (suc (suc zero)) body = omega arith
-column-lt (suc (suc (suc k))) body = omega arith
+column-lt (suc (suc (suc zero))) body = parity-lt body
+column-lt (suc (suc (suc (suc k)))) body = omega arith
 
 -- ---- the table
 

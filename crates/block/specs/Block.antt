@@ -14,7 +14,7 @@ use Rattle.block.specs.Side.{validity, user, status, columns, columnBit,
 
 -- ---- from samples and side table to bodies
 
--- V, U or C of subframe i
+-- V, U, C or E of subframe i
 unfoldable pub sideAt : List ℕ → ℕ → ℕ → ℕ
 sideAt side column i = sideBit side (columns * (i % 2) + column) (i / 2)
 

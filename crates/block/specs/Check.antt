@@ -1,8 +1,9 @@
--- What a writer checks of a block: lengths (1), the samples' range (3), then of the channel status that the C bits
--- carry: professional use (4), the CRCC (5), and validity where other than linear PCM is declared (6); last, the
--- samples by the word length that it declares (18). Each kind goes over all its places, smallest first. Assumes
--- nothing.
-use Prim.Native.Nat.{ℕ, _+_, _*_, _%_}
+-- What a writer checks of a block: lengths (1), that E is empty (20), the samples' range (3), then of the channel status
+-- that the C bits carry: professional use (4), the CRCC (5), and validity where other than linear PCM is declared (6);
+-- last, the samples by the word length that it declares (18). Each kind goes over all its places, smallest first.
+-- Assumes nothing.
+use Prim.Native.Nat.{ℕ, _+_, _*_, _%_, _<_}
+use mathlib.Core.Path.{_≡_}
 use mathlib.Core.Bool.{Bool, true, false, not, _&&_}
 use mathlib.Core.List.{List, [], _∷_, _++_}
 use lib.Dec.{ltb, eqb}
@@ -16,7 +17,8 @@ use Rattle.codes.specs.Crcc.{crccRight}
 use Rattle.subframe.specs.Signed.{inRange, codeOf}
 use Rattle.status.specs.declared.Use.{Use}
 use Rattle.status.specs.Meaning.{meaningOf}
-use Rattle.block.specs.Side.{validity, status, columns, sideLength, sideBit, columnIn}
+use Rattle.block.specs.Side.{validity, status, fault, columns, sideLength, sideBit, columnIn}
+use Rattle.block.specs.Block.{sideAt}
 use Rattle.block.specs.Length.{busyUnder}
 
 -- the 24 status octets of a channel: its C column
@@ -27,7 +29,15 @@ statusOf channel side = columnIn side (columns * channel + status)
 unfoldable pub statusRight : List ℕ → ℕ → Bool
 statusRight side channel = eqb (length side) sideLength && ltb channel 2 && crccRight (statusOf channel side)
 
+-- E is empty: no subframe's E is set
+abbrev pub Faultless : List ℕ → Type 0
+Faultless side = (i : ℕ) → i < 384 → sideAt side fault i ≡ 0
+
 -- ---- each refusal at one of its places
+
+-- E of the subframe is set
+unfoldable pub faulty : List ℕ → ℕ → Bool
+faulty side i = eqb (sideAt side fault i) 1
 
 unfoldable pub outside : List ℤ → ℕ → Bool
 outside samples i = not (inRange 24 (getD samples i (pos 0)))
@@ -67,9 +77,10 @@ statusDemands side = findsNone 4 (consumer side) 0 2 ∷ findsNone 5 (wrong side
 abbrev pub lengthDemands : List ℤ → List ℕ → List Demand
 lengthDemands samples side = findsNone 18 (overlong samples side) 0 384 ∷ []
 
--- of samples and side table of the right lengths: 3, then those
+-- of samples and side table of the right lengths: 20, then 3, then those
 abbrev pub blockDemands : List ℤ → List ℕ → List Demand
-blockDemands samples side = findsNone 3 (outside samples) 0 384 ∷ (statusDemands side ++ lengthDemands samples side)
+blockDemands samples side =
+    findsNone 20 (faulty side) 0 384 ∷ findsNone 3 (outside samples) 0 384 ∷ (statusDemands side ++ lengthDemands samples side)
 
 abbrev pub checkDemands : List ℤ → List ℕ → List Demand
 checkDemands samples side =

@@ -8,10 +8,16 @@ use lib.ListN.{length, getD, take, drop}
 use Rattle.bits.specs.Pick.{pick}
 use Rattle.bits.specs.Row.{Row, bit, bits, little}
 use Rattle.bits.specs.Pack.{chain, pack}
+use Rattle.subframe.specs.Body.{parityOf, evenBody}
 
--- the columns of a channel, by what each holds of a body: V slot 28, U slot 29, C slot 30
+-- V of a body as it came: slot 28, but 1 where the ones in slots 4 to 31 are odd
+abbrev pub validityOf : ℕ → ℕ
+validityOf body = pick (evenBody body) (bit 28 body) 1
+
+-- the columns of a channel, by what each holds of a body: V; U slot 29; C slot 30; E 1 where the ones in slots 4 to 31
+-- are odd
 abbrev pub columnBits : List (ℕ → ℕ)
-columnBits = (λ body. bit 28 body) ∷ (λ body. bit 29 body) ∷ (λ body. bit 30 body) ∷ []
+columnBits = (λ body. validityOf body) ∷ (λ body. bit 29 body) ∷ (λ body. bit 30 body) ∷ (λ body. parityOf body) ∷ []
 
 -- how many they are, and which is which
 abbrev pub columns : ℕ
@@ -25,6 +31,9 @@ user = 1
 
 abbrev pub status : ℕ
 status = 2
+
+abbrev pub fault : ℕ
+fault = 3
 
 -- what a column holds of a body; 0 where there is no such column
 unfoldable pub columnBit : ℕ → ℕ → ℕ

@@ -1,8 +1,8 @@
-// A block: 384 samples and a side table of V, U and C. Samples and side table from bodies, and what a writer checks of
-// them.
+// A block: 384 samples and a side table of V, U, C and E. Samples and side table from bodies, and what a writer checks
+// of them.
 ghost use mathlib.Core.Path.{_≡_};
 ghost use mathlib.Core.Bool.{true, not};
-ghost use Prim.Native.Nat.{_*_, _%_, _<_};
+ghost use Prim.Native.Nat.{_+_, _*_, _%_, _<_};
 ghost use lib.Bits.{bitAnd};
 ghost use lib.Dec.{eqb};
 ghost use lib.ListN.{length, getD};
@@ -14,8 +14,8 @@ ghost use Rattle.answer.specs.Said.{verdictSaid};
 ghost use Rattle.subframe.specs.Signed.{inRange, codeOf};
 ghost use Rattle.block.specs.Side.{columnBits, columns, columnLength, sideLength};
 ghost use Rattle.block.specs.Block.{samplesOf, sideOf, blockFilled};
-ghost use Rattle.block.specs.Check.{statusOf, statusRight, outside, consumer, wrong, someValid, unmarked, meaningIn, overlong, statusChecked, checked};
-ghost use Rattle.block.specs.Inner.{digitsOf, apartTable, gathered, laid, channelSide, maskUnder, AllInRange, masked};
+ghost use Rattle.block.specs.Check.{statusOf, statusRight, faulty, outside, consumer, wrong, someValid, unmarked, meaningIn, overlong, statusChecked, checked};
+ghost use Rattle.block.specs.Inner.{digitsOf, apartTable, gathered, laid, channelSide, faultsOf, someFault, maskUnder, AllInRange, masked};
 
 mod length;
 mod tables;
@@ -30,7 +30,9 @@ pub const U: usize = 1;
 
 pub const C: usize = 2;
 
-pub const COLUMNS: usize = 3;
+pub const E: usize = 3;
+
+pub const COLUMNS: usize = 4;
 
 // How many octets a column has, those of a channel, and the table.
 pub const COLUMN: usize = 24;
@@ -54,12 +56,12 @@ fn fill_samples(bodies: &[u32], samples: &mut [i32])
     }
 }
 
-// What the columns hold of a body, column k at weight 256^k: slots 28 to 30 by a table, at once.
+// What the columns hold of a body, column k at weight 256^k: slots 28 to 30 and whether it is odd, by a table, at once.
 fn apart(table: &[u32], body: u32) -> u32
     requires { ⌜ now table ≡ apartTable ⌝ }
     ensures { λ r. ⌜ r ≡ digitsOf columnBits body ⌝ }
 {
-    table[(body / 268435456) as usize]
+    table[(body / 268435456 + subframe::parity(body) * 16) as usize]
 }
 
 // Octet j of each column of a channel, column k at weight 256^k: eight of its bodies, the last first.
@@ -164,6 +166,67 @@ pub fn status_right(side: &[u8], channel: usize) -> bool
     let a = COLUMN * (COLUMNS * channel + C);
     let e = a + COLUMN;
     codes::crcc_right(&side[a..e])
+}
+
+// The octets of both channels' E that hold the sixteen subframes from 16 j on, added up.
+fn sixteen_faults(side: &[u8], j: usize) -> u32
+    requires { ⌜ (length (now side) ≡ sideLength) × (j < columnLength) ⌝ }
+    ensures { λ r. ⌜ r ≡ faultsOf (now (side .entry)) 0 j + faultsOf (now (side .entry)) 1 j ⌝ }
+{
+    side[COLUMN * E + j] as u32 + side[CHANNEL + COLUMN * E + j] as u32
+}
+
+// Whether E of subframe i is set.
+fn is_faulty(side: &[u8], i: usize) -> bool
+    requires { ⌜ (length (now side) ≡ sideLength) × (i < 384) ⌝ }
+    ensures { λ r. ⌜ r ≡ faulty (now (side .entry)) i ⌝ }
+{
+    let k = COLUMNS * (i % 2) + E;
+    (side[COLUMN * k + i / 16] >> (i / 2 % 8)) % 2 == 1
+}
+
+// 1 where some E of the sixteen subframes from 16 j on is set, else 0.
+fn some_fault(side: &[u8], j: usize) -> u32
+    requires { ⌜ (length (now side) ≡ sideLength) × (j < columnLength) ⌝ }
+    ensures { λ r. ⌜ r ≡ digit (someFault (now (side .entry)) j) ⌝ }
+{
+    if sixteen_faults(side, j) == 0 {
+        return 0;
+    }
+    1
+}
+
+// How many sixteens of subframes have an E that is set: counted as the samples out of range are, since mostly there is
+// none.
+fn faults_count(side: &[u8]) -> u32
+    requires { ⌜ length (now side) ≡ sideLength ⌝ }
+    ensures { λ r. ⌜ r ≡ count (listed 0 24 (someFault (now (side .entry)))) ⌝ }
+{
+    let mut n: u32 = 0;
+    let mut j: usize = 0;
+    while j < COLUMN {
+        n += some_fault(side, j);
+        j += 1;
+    }
+    n
+}
+
+// The first subframe whose E is set, or 384.
+fn first_fault(side: &[u8]) -> usize
+    requires { ⌜ length (now side) ≡ sideLength ⌝ }
+    ensures { λ r. ⌜ r ≡ first (faulty (now (side .entry))) 0 384 (λ i. i) 384 ⌝ }
+{
+    if faults_count(side) == 0 {
+        return 384;
+    }
+    let mut i: usize = 0;
+    while i < 384 {
+        if is_faulty(side, i) {
+            return i;
+        }
+        i += 1;
+    }
+    i
 }
 
 // 1 for a sample that is out of range, else 0.
@@ -388,7 +451,7 @@ fn first_overlong(samples: &[i32], side: &[u8]) -> usize
     first_masked(samples, a, b)
 }
 
-// Refusals 1, 3, 4, 5, 6 and 18 of a block.
+// Refusals 1, 20, 3, 4, 5, 6 and 18 of a block.
 pub fn check_block(samples: &[i32], side: &[u8]) -> Verdict
     ensures { λ r. ⌜ verdictSaid r ≡ checked (now (samples .entry)) (now (side .entry)) ⌝ }
 {
@@ -404,7 +467,14 @@ pub fn check_block(samples: &[i32], side: &[u8]) -> Verdict
             place: 0,
         };
     }
+    let f = first_fault(side);
     let i = first_outside(samples);
+    if f < 384 {
+        return Verdict::Refused {
+            number: 20,
+            place: f as u32,
+        };
+    }
     if i < 384 {
         return Verdict::Refused {
             number: 3,

@@ -32,7 +32,7 @@ abbrev pub blockContent : ℕ × ℕ → Content
 blockContent crccs = Content.aes3 (crccs .0) (crccs .1)
 
 unfoldable pub blockRecord : List ℕ → Answer Content
-blockRecord payload = mapped blockContent (mapped crccs (blockAnswer payload 384 144))
+blockRecord payload = mapped blockContent (mapped crccs (blockAnswer payload 384 192))
 
 -- ---- kind 2: a packet, 62 octets, each word big-endian
 

@@ -92,10 +92,10 @@ fn no_samples() -> [i32; 384]
     [0; 384]
 }
 
-fn no_side() -> [u8; 144]
-    ensures { λ r. ⌜ length r ≡ 144 ⌝ }
+fn no_side() -> [u8; 192]
+    ensures { λ r. ⌜ length r ≡ 192 ⌝ }
 {
-    [0; 144]
+    [0; 192]
 }
 
 fn of_block(answer: aes3_read::ReadAnswer) -> Outcome

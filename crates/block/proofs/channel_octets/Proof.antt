@@ -4,9 +4,9 @@ use mathlib.Core.List.{List}
 use Prim.Native.Nat.{ℕ, _+_, _-_, _*_, _/_, _^_, _≤_, _<_}
 use native.Mathlib.Omega.{arith}
 use lib.ListN.{getD}
-use Rattle.block.specs.Side.{columnBits}
-use Rattle.block.specs.Inner.{gathered}
-use Rattle.block.proofs.Gathering.{digits-lt, more, gathered-lt, none}
+use Rattle.block.specs.Side.{columnBits, columnLength}
+use Rattle.block.specs.Inner.{digitsOf, gathered}
+use Rattle.block.proofs.Gathering.{more, gathered-lt, none}
 use Rattle.block.proofs.channel_octets.Statement.{statement}
 use Rattle.block.proofs.channel_octets.Tie as tie
 
@@ -29,8 +29,16 @@ module _ (c : tie.At-loop Inv-loop μ-loop) where
   abbrev body : ℕ
   body = getD bodies (2 * (j * 8 + 7 - m) + c .before .before .before .args .channel) 0
 
-  small : c .loop .n < 2 ^ 24
-  small = omega (arith, c .loop .inv .1, gathered-lt bodies (c .before .before .before .args .channel) (j * 8 + 8 - m) m columnBits (c .loop .inv .0))
+  -- there is room for one frame more
+  room : m < 8 → j < columnLength → c .loop .n * 2 + digitsOf columnBits body < 2 ^ 32
+  room h hj =
+      let ch = c .before .before .before .args .channel in
+      omega (
+        arith,
+        c .loop .inv .1,
+        more bodies ch (j * 8) m columnBits (omega arith) h,
+        gathered-lt bodies ch (j * 8 + 8 - (m + 1)) (m + 1) columnBits (omega arith),
+      )
 
 loop-holds : tie.Need-loop-holds Inv-loop μ-loop
 loop-holds c =
@@ -59,13 +67,13 @@ shared-slice-read-b : tie.Need-shared-slice-read-b Inv-loop μ-loop
 shared-slice-read-b c = omega arith
 
 mul-n : tie.Need-mul-n Inv-loop μ-loop
-mul-n c = omega (arith, small (c .before .before))
+mul-n c = omega (arith, room (c .before .before) (omega arith) (omega arith))
 
 apart-requires : tie.Need-apart-requires Inv-loop μ-loop
 apart-requires c κs = c .before .before .before .before .before .pre .0
 
 add-n : tie.Need-add-n Inv-loop μ-loop
-add-n c = omega (arith, small (c .before .before .before), c .apart .ensures, digits-lt columnBits (body (c .before .before .before)))
+add-n c = omega (arith, c .apart .ensures, room (c .before .before .before) (omega arith) (omega arith))
 
 add-m : tie.Need-add-m Inv-loop μ-loop
 add-m c = omega arith
