@@ -1,9 +1,10 @@
 -- A chain of demands: accepted exactly if all are met, refused exactly by the first that is not. Assumes nothing.
-use mathlib.Core.Path.{_≡_, refl, sym, ap, _∙_}
+use mathlib.Core.Path.{_≡_, refl, sym, ap, _∙_, subst}
 use mathlib.Core.Logic.{⊎-elim}
 use mathlib.Core.Bool.{Bool, true, false}
 use mathlib.Core.List.{List, [], _∷_, _++_}
 use Prim.Native.Nat.{ℕ, _+_, _-_, _≤_, _<_}
+use native.Mathlib.Nat.{zero-add}
 use native.Mathlib.Omega.{arith}
 use Rattle.bits.specs.Pick.{pick, first}
 use Rattle.bits.proofs.Tests.{pick-cases, no-yes, order}
@@ -100,18 +101,45 @@ module _ {A : Type 0} (v : A) where
       (λ x. x ≡ refused number place → Stops (findsNone n p k c ∷ ds) number place)
       (λ i l m t before r. same-refusal r (found l m t before)) (λ none r. later none (stops ds number place r)) e
 
--- ---- where code looked for the first place first: r is that place, or n where there is none
+-- ---- where code looked for the first place first, by a test of its own and counted from 0: r is that place, or how many there are
 
+module _ (p q : ℕ → Bool) (m n many r : ℕ) (same : (i : ℕ) → i < n → p (m + i) ≡ q i) (long : many ≡ n)
+    (e : r ≡ first q 0 many (λ i. i) many) where
+  back : (j : ℕ) → m ≤ j → j < m + n → q (j - m) ≡ false → p j ≡ false
+  back j l u f =
+      let i : m + (j - m) ≡ j = omega arith in
+      rw i at (same (j - m) (omega arith) ∙ f)
+
+  pub found-from : {number : ℕ} {ds : List Demand} → r < n → Stops (findsNone number p m n ∷ ds) number (m + r)
+  found-from {number} {ds} h =
+      search-cases q (λ i. i) many 0 many (λ x. r ≡ x → Stops (findsNone number p m n ∷ ds) number (m + r))
+      (λ i l u t before x. rw x (found {k = m} {n = n} {i = m + i} {p = p} (omega arith) (omega arith) (same i (omega arith) ∙ t)
+      (λ j below above. back j below (omega arith) (before (j - m) (omega arith) (omega arith)))))
+      (λ none x. absurd (omega arith)) e
+
+  pub none-from : n ≤ r → (j : ℕ) → m ≤ j → j < m + n → p j ≡ false
+  none-from h =
+      search-cases q (λ i. i) many 0 many (λ x. r ≡ x → (j : ℕ) → m ≤ j → j < m + n → p j ≡ false)
+      (λ i l u t before x. absurd (omega arith))
+      (λ none x j below above. back j below above (none (j - m) (omega arith) (omega arith))) e
+
+-- the places themselves
+module _ (p q : ℕ → Bool) (n many r : ℕ) (same : (i : ℕ) → p i ≡ q i) (long : many ≡ n) (e : r ≡ first q 0 many (λ i. i) many) where
+  pub found-here : {number : ℕ} {ds : List Demand} → r < n → Stops (findsNone number p 0 n ∷ ds) number r
+  found-here {number} {ds} h =
+      subst (Stops (findsNone number p 0 n ∷ ds) number) (zero-add r)
+      (found-from p q 0 n many r (λ i l. ap p (zero-add i) ∙ same i) long e h)
+
+  pub none-here : n ≤ r → (i : ℕ) → 0 ≤ i → i < 0 + n → p i ≡ false
+  none-here = none-from p q 0 n many r (λ i l. ap p (zero-add i) ∙ same i) long e
+
+-- and the test itself
 module _ (p : ℕ → Bool) (n r : ℕ) (e : r ≡ first p 0 n (λ i. i) n) where
   pub place-found : {number : ℕ} {ds : List Demand} → r < n → Stops (findsNone number p 0 n ∷ ds) number r
-  place-found {number} {ds} h =
-      search-cases p (λ i. i) n 0 n (λ x. r ≡ x → Stops (findsNone number p 0 n ∷ ds) number r)
-      (λ i l m t before q. rw q (found l m t before)) (λ none q. absurd (omega arith)) e
+  place-found h = found-here p p n n r (λ i. refl) refl e h
 
   pub none-found : n ≤ r → (i : ℕ) → 0 ≤ i → i < 0 + n → p i ≡ false
-  none-found h =
-      search-cases p (λ i. i) n 0 n (λ x. r ≡ x → (i : ℕ) → 0 ≤ i → i < 0 + n → p i ≡ false)
-      (λ i l m t before q. absurd (omega arith)) (λ none q. none) e
+  none-found = none-here p p n n r (λ i. refl) refl e
 
 -- ---- one chain after another
 
@@ -125,6 +153,15 @@ module _ {A : Type 0} (a : Answer A) where
 -- demands that are met leave the answer to those after them
 pub passes-on : {A : Type 0} (a : Answer A) (ds es : List Demand) → AllMet ds → provided (ds ++ es) a ≡ provided es a
 passes-on a ds es h = followed a ds es ∙ passing (provided es a) ds h
+
+pub all-of : (ds es : List Demand) → AllMet ds → AllMet es → AllMet (ds ++ es)
+all-of [] es m n = n
+all-of (d ∷ ds) es m n = (m .0, all-of ds es (m .1) n)
+
+-- and one that stops after them stops
+pub further : (ds : List Demand) {es : List Demand} {number place : ℕ} → AllMet ds → Stops es number place → Stops (ds ++ es) number place
+further [] m s = s
+further (d ∷ ds) m s = later (m .0) (further ds (m .1) s)
 
 -- where one stops, it stops whatever follows
 pub extended : {ds : List Demand} {number place : ℕ} → Stops ds number place → (es : List Demand) → Stops (ds ++ es) number place

@@ -5,7 +5,7 @@ use mathlib.Core.Path.{_≡_, refl, sym, ap, _∙_}
 use mathlib.Core.Logic.{⊎-elim}
 use mathlib.Core.Bool.{Bool, true, false, not}
 use mathlib.Core.List.{List, _∷_}
-use Prim.Native.Nat.{ℕ, zero, suc, _+_, _-_, _≤_, _<_}
+use Prim.Native.Nat.{ℕ, zero, suc, _+_, _-_, _*_, _≤_, _<_}
 use native.Mathlib.Numerals.{add-one}
 use native.Mathlib.Omega.{arith}
 use borrow.Author.Tests.{eq-eqb, eqb-true, lt-ltb, not-false}
@@ -24,10 +24,23 @@ use Rattle.answer.proofs.Chains.{met, passing, stops, beyond}
 use Rattle.codes.specs.Crcc.{crccRight}
 use Rattle.subframe.specs.Signed.{inRange}
 use Rattle.subframe.proofs.BodyTrips.{sample-in}
-use Rattle.block.specs.Side.{fault, sideLength}
+use Rattle.block.specs.Side.{status, fault, columns, columnLength, sideLength}
 use Rattle.block.specs.Block.{sideAt, samplesOf, sideOf}
 use Rattle.block.specs.Check.{statusOf, statusRight, Faultless, faulty, outside, consumer, wrong, unmarked, overlong, statusDemands, blockDemands, checkDemands, statusChecked, checked}
+use Rattle.block.proofs.SideLaws.{getD-columnIn}
 use Rattle.block.proofs.BlockLaws.{InRange, length-samples, getD-samples, length-side, side-digit}
+
+-- ---- for those who do not open these tests
+
+pub outside-range : (s : List ℤ) (i : ℕ) → outside s i ≡ not (inRange 24 (getD s i (pos 0)))
+unfolding outside
+outside-range s i = refl
+
+-- an octet of a channel's status, by its place in the table
+pub status-octet : (t : List ℕ) (channel j : ℕ) → j < columnLength
+    → getD (statusOf channel t) j 0 ≡ getD t (columnLength * (columns * channel + status) + j) 0
+unfolding statusOf
+status-octet t channel j h = getD-columnIn t (columns * channel + status) j h
 
 -- ---- counting, which comes before a search
 
