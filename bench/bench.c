@@ -11,6 +11,8 @@
 enum { ROUNDS = 41, HUNTED = 8192, SYNCS = 26 };
 
 static int32_t samples[384], bound_samples[384], back_samples[384];
+static int32_t plain[384], back_plain[384], voice[128], back_voice[128];
+static uint8_t talk_side[LAMPCOIL_SIDE_OCTETS];
 static uint8_t side[192], bound_side[192], back_side[192], line[3072], odd_line[3072], back_line[3072], hunted[HUNTED];
 static uint32_t words[64], back_words[64], bodies[4], back_bodies[4];
 static uint8_t madi[LAMPCOIL_MADI_OCTETS(64, SYNCS)], back_madi[LAMPCOIL_MADI_OCTETS(64, SYNCS)];
@@ -54,6 +56,9 @@ BOTH(aes3_write_bound, lampcoil_verdict, aes3_write, (bound_samples, 384, bound_
 BOTH(aes3_read, lampcoil_aes3_read_answer, aes3_read, (line, 3072, back_samples, 384, back_side, 192))
 BOTH(aes3_read_odd, lampcoil_aes3_read_answer, aes3_read, (odd_line, 3072, back_samples, 384, back_side, 192))
 BOTH(find, lampcoil_aes3_start, aes3_find, (hunted, HUNTED))
+BOTH(join, lampcoil_verdict, talkback_join, (plain, 384, voice, 128, talk_side, LAMPCOIL_SIDE_OCTETS, back_samples, 384))
+BOTH(separate, lampcoil_verdict, talkback_separate,
+     (samples, 384, talk_side, LAMPCOIL_SIDE_OCTETS, back_plain, 384, back_voice, 128))
 BOTH(madi_write, lampcoil_verdict, madi_write, (64, words, 64, SYNCS, 0, back_madi, sizeof back_madi))
 BOTH(madi_read, lampcoil_madi_read_answer, madi_read,
      (64, 0, LAMPCOIL_MADI_BITS(64, SYNCS), madi, sizeof madi, back_words, 64))
@@ -138,6 +143,11 @@ static void prepare_carriers(void)
         uint32_t flags = draw();
         words[k] = lampcoil_body_write(sample, flags & 1, flags >> 1 & 1, flags >> 2 & 1).body;
     }
+    for (int k = 0; k < 384; k++)
+        plain[k] = samples[k] & ~15;
+    for (int k = 0; k < 128; k++)
+        voice[k] = (int32_t)(draw() & 0xFFF) - 2048;
+    talk_side[LAMPCOIL_SIDE_C_A + 2] = talk_side[LAMPCOIL_SIDE_C_B + 2] = 2;
     memcpy(status, side + 48, sizeof status);
     memcpy(bodies, words, sizeof bodies);
     lampcoil_aes3_write(samples, 384, side, 192, 0, line, 3072);
@@ -240,6 +250,9 @@ static const operation all[] = {
     {"status edit, byte 22; the same C", &library_edit_22, &by_hand_edit_22, nothing, 24, {FILLS(back_status)}},
     {"status edit, byte 0; for C the library's right and seal", &library_edit_0, &afresh_edit_0, nothing, 24, {FILLS(back_status)}},
     {"status edit, byte 22; the same", &library_edit_22, &afresh_edit_22, nothing, 24, {FILLS(back_status)}},
+    {"talkback, joining a block", &library_join, &by_hand_join, nothing, sizeof samples, {FILLS(back_samples)}},
+    {"talkback, separating a block", &library_separate, &by_hand_separate, nothing, sizeof samples,
+     {FILLS(back_plain), FILLS(back_voice)}},
     {"MADI write, 64 channels", &library_madi_write, &by_hand_madi_write, nothing, sizeof madi, {FILLS(back_madi)}},
     {"MADI read, 64 channels", &library_madi_read, &by_hand_madi_read, nothing, sizeof madi, {FILLS(back_words)}},
     {"HD write, a packet", &library_hd_write, &by_hand_hd_write, nothing, 62, {FILLS(back_packet)}},

@@ -27,6 +27,10 @@ lampcoil_verdict hand_hd_write(uint32_t group, uint32_t dbn, uint32_t phase, uin
                                const uint32_t *bodies, size_t bodies_len, uint16_t *words, size_t words_len);
 lampcoil_hd_read_answer hand_hd_read(const uint16_t *words, size_t words_len, uint32_t *bodies, size_t bodies_len);
 lampcoil_hd_repair_answer hand_hd_repair(const uint16_t *words, size_t words_len, uint16_t *repaired, size_t repaired_len);
+lampcoil_verdict hand_talkback_join(const int32_t *program, size_t program_len, const int32_t *voice, size_t voice_len,
+                                    const uint8_t *side, size_t side_len, int32_t *samples, size_t samples_len);
+lampcoil_verdict hand_talkback_separate(const int32_t *samples, size_t samples_len, const uint8_t *side, size_t side_len,
+                                        int32_t *program, size_t program_len, int32_t *voice, size_t voice_len);
 
 /* Eight octets, the first highest, on a machine that has the lowest first. */
 static inline uint64_t load_be64(const uint8_t *p)

@@ -19,5 +19,7 @@
 #define lampcoil_hd_write hand_hd_write
 #define lampcoil_hd_read hand_hd_read
 #define lampcoil_hd_repair hand_hd_repair
+#define lampcoil_talkback_join hand_talkback_join
+#define lampcoil_talkback_separate hand_talkback_separate
 
 #endif

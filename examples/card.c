@@ -1,5 +1,5 @@
-/* A card driver in small, as it would be written over the library: two tenants' audio goes out on an AES3 line, a MADI
-   frame and an HD packet through one scratch memory, one tenant after the other, and comes back. Every answer is tested
+/* A card driver in small, as it would be written over the library: two tenants' audio goes out on an AES3 line, with
+   talkback too, a MADI frame and an HD packet through one scratch memory, one tenant after the other, and comes back. Every answer is tested
    before anything else is done with what it left; and at the end the scratch memory is searched for the first tenant.
    It ends with 0 if all went as it should. */
 #include "lampcoil.h"
@@ -24,6 +24,7 @@ typedef struct {
     uint32_t words[CHANNELS];
     uint16_t packet[LAMPCOIL_PACKET_WORDS], repaired[LAMPCOIL_PACKET_WORDS];
     uint32_t bodies[LAMPCOIL_PACKET_BODIES];
+    int32_t joined[LAMPCOIL_BLOCK_SAMPLES], program[LAMPCOIL_BLOCK_SAMPLES], voice[LAMPCOIL_VOICE_SAMPLES];
 } memory;
 
 /* 1 if an answer is no acceptance, and says so. The buffers are then as they were: what another tenant left there is
@@ -207,6 +208,43 @@ static int over_hd(const tenant *t, uint32_t dbn, memory *m)
     return r.group != GROUP || r.dbn != dbn || memcmp(m->bodies, sent, sizeof sent) != 0 ? differ("hd") : 0;
 }
 
+/* A label that declares a coordination signal in slots 4 to 7 and words of 20 bits. */
+static int declare_talkback(uint8_t *status)
+{
+    lampcoil_verdict v = lampcoil_status_edit(status, LAMPCOIL_STATUS_OCTETS, 2, 0x2A);
+    if (REFUSED("status edit", v))
+        return 1;
+    lampcoil_status_meaning m = lampcoil_status_read(status, LAMPCOIL_STATUS_OCTETS);
+    return m.auxiliary == LAMPCOIL_AUXILIARY_20_COORDINATION && m.length == 20 ? 0 : differ("status edit");
+}
+
+/* Twenty bits of the tenant's audio with the producer's voice in the four below, on the line and back. */
+static int talk_back(const tenant *t, memory *m)
+{
+    static tenant sent;
+    static int32_t said[LAMPCOIL_VOICE_SAMPLES];
+    sent = *t;
+    for (size_t k = 0; k < LAMPCOIL_BLOCK_SAMPLES; k++) /* the lowest four bits are the voice's */
+        sent.samples[k] -= (sent.samples[k] + 8388608) % 16;
+    for (size_t k = 0; k < LAMPCOIL_VOICE_SAMPLES; k++)
+        said[k] = t->samples[k] == 0 ? 0 : (t->samples[k] + 8388608) % 4096 - 2048;
+    if (declare_talkback(sent.side + LAMPCOIL_SIDE_C_A) || declare_talkback(sent.side + LAMPCOIL_SIDE_C_B))
+        return 1;
+    lampcoil_verdict v = lampcoil_talkback_join(sent.samples, LAMPCOIL_BLOCK_SAMPLES, said, LAMPCOIL_VOICE_SAMPLES, sent.side,
+                                                LAMPCOIL_SIDE_OCTETS, m->joined, LAMPCOIL_BLOCK_SAMPLES);
+    if (REFUSED("talkback join", v))
+        return 1;
+    v = lampcoil_aes3_write(m->joined, LAMPCOIL_BLOCK_SAMPLES, sent.side, LAMPCOIL_SIDE_OCTETS, 0, m->line, LAMPCOIL_BLOCK_OCTETS);
+    if (REFUSED("aes3 write", v) || receive_block(m->line, m))
+        return 1;
+    v = lampcoil_talkback_separate(m->samples, LAMPCOIL_BLOCK_SAMPLES, m->side, LAMPCOIL_SIDE_OCTETS, m->program,
+                                   LAMPCOIL_BLOCK_SAMPLES, m->voice, LAMPCOIL_VOICE_SAMPLES);
+    if (REFUSED("talkback separate", v))
+        return 1;
+    printf("  talkback: %u voice samples in one block\n", LAMPCOIL_VOICE_SAMPLES);
+    return memcmp(m->program, sent.samples, sizeof m->program) != 0 || memcmp(m->voice, said, sizeof said) != 0 ? differ("talkback") : 0;
+}
+
 /* A tenant's audio over all three carriers. */
 static int carry(const tenant *t, uint32_t dbn, memory *m)
 {
@@ -215,7 +253,7 @@ static int carry(const tenant *t, uint32_t dbn, memory *m)
         return 1;
     if (memcmp(m->samples, t->samples, sizeof m->samples) != 0 || memcmp(m->side, t->side, sizeof m->side) != 0)
         return differ("aes3");
-    return over_madi(t, 0, m) || over_hd(t, dbn, m);
+    return talk_back(t, m) || over_madi(t, 0, m) || over_hd(t, dbn, m);
 }
 
 /* A block that the way has damaged: it is refused, and the buffers are as before it came. */

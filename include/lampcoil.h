@@ -30,16 +30,16 @@ extern "C" {
 #endif
 
 /* The version of this header and of the library beside it. A larger MAJOR may take something away; MINOR adds. */
-#define LAMPCOIL_VERSION "3.0.0"
+#define LAMPCOIL_VERSION "3.1.0"
 #define LAMPCOIL_VERSION_MAJOR 3
-#define LAMPCOIL_VERSION_MINOR 0
+#define LAMPCOIL_VERSION_MINOR 1
 #define LAMPCOIL_VERSION_PATCH 0
 
 /* Numbers that come back, and what their place is; lampcoil_refusal_text tells when each is given. */
 #define LAMPCOIL_ACCEPTED 0u
 #define LAMPCOIL_REFUSED_LENGTH 1u
 #define LAMPCOIL_REFUSED_RANGE 2u
-#define LAMPCOIL_REFUSED_SAMPLE 3u       /* place: sample index; at body_write 0 */
+#define LAMPCOIL_REFUSED_SAMPLE 3u       /* place: sample index; at body_write 0; a voice sample: 384 and its index */
 #define LAMPCOIL_REFUSED_CONSUMER 4u     /* place: channel, 0 for A, 1 for B */
 #define LAMPCOIL_REFUSED_CRCC 5u         /* place: channel; at status_edit 0 */
 #define LAMPCOIL_REFUSED_VALIDITY 6u     /* place: channel */
@@ -55,6 +55,7 @@ extern "C" {
 #define LAMPCOIL_REFUSED_CHECKSUM 16u    /* place: 30 */
 #define LAMPCOIL_REFUSED_NO_START 17u
 #define LAMPCOIL_REFUSED_WORD_LENGTH 18u /* place: sample index */
+#define LAMPCOIL_REFUSED_UNDECLARED 19u  /* place: channel */
 #define LAMPCOIL_REFUSED_FAULT_MAP 20u   /* place: subframe */
 
 /* When a number is given, in words; never null. */
@@ -64,7 +65,7 @@ static inline const char *lampcoil_refusal_text(uint32_t number)
         "accepted",
         "a buffer length is not as stated",
         "a number is outside its range",
-        "a sample is outside -8,388,608 to 8,388,607",
+        "a sample is outside its range, or a program sample has a busy low bit",
         "writer: status byte 0 bit 0 is 0",
         "writer or edit: status byte 23 is wrong",
         "writer: byte 0 bit 1 is 1 and some V of that channel is 0",
@@ -80,7 +81,7 @@ static inline const char *lampcoil_refusal_text(uint32_t number)
         "the last packet word is wrong",
         "the search finds no block start",
         "writer: a sample has a 1 below the word length that its channel's status declares",
-        "not a number of this library",
+        "talkback: status byte 2 bits 2, 1, 0 are not 0, 1, 0",
         "writer: an E of the side table is set",
     };
     return number < sizeof texts / sizeof texts[0] ? texts[number] : "not a number of this library";
@@ -89,6 +90,7 @@ static inline const char *lampcoil_refusal_text(uint32_t number)
 /* Lengths, in elements of the buffer. */
 #define LAMPCOIL_STATUS_OCTETS 24u
 #define LAMPCOIL_BLOCK_SAMPLES 384u
+#define LAMPCOIL_VOICE_SAMPLES 128u
 #define LAMPCOIL_SIDE_OCTETS 192u
 #define LAMPCOIL_BLOCK_OCTETS 3072u
 #define LAMPCOIL_BIPHASE_ENTRIES 256u
@@ -282,6 +284,26 @@ lampcoil_aes3_start lampcoil_aes3_find(const uint8_t *line, size_t line_len);
    Order: LENGTH (a block of another length, a line above 8,192 octets), RANGE (fewer symbols than a block has, from the
    position on). */
 lampcoil_verdict lampcoil_aes3_align(const uint8_t *line, size_t line_len, uint32_t position, uint8_t *block, size_t block_len);
+
+/* ---- Talkback: a voice in the auxiliary bits of a block (BS.647-3, part 3, appendix A). The status of both channels
+   must declare it, byte 2 bits 2, 1, 0 as 0, 1, 0; nothing else of the status is judged. 384 program samples, A and B
+   alternating, have 20 bits each: 24, of which the lowest four are 0. 128 voice samples, A and B alternating, have 12,
+   -2,048 to 2,047: sample 2k + c is in frames 3k (its lowest four bits), 3k + 1 and 3k + 2 of channel c. ---- */
+
+/* Fills the samples: slots 8 to 27 from the program, slots 4 to 7 from the voice.
+   Order: LENGTH (each of the four), UNDECLARED, SAMPLE (a program sample out of range or with one of its lowest four
+   bits set, at its index), SAMPLE (a voice sample out of range, at 384 and its index). */
+lampcoil_verdict lampcoil_talkback_join(const int32_t *program, size_t program_len,
+                                        const int32_t *voice, size_t voice_len,
+                                        const uint8_t *side, size_t side_len,
+                                        int32_t *samples, size_t samples_len);
+
+/* Fills program and voice: the samples without slots 4 to 7, and what is there.
+   Order: LENGTH (each of the four), UNDECLARED, SAMPLE (a sample out of range). */
+lampcoil_verdict lampcoil_talkback_separate(const int32_t *samples, size_t samples_len,
+                                            const uint8_t *side, size_t side_len,
+                                            int32_t *program, size_t program_len,
+                                            int32_t *voice, size_t voice_len);
 
 /* ---- MADI: a frame of 56 or 64 channels of 40 line bits, then sync symbols of ten. ---- */
 

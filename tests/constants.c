@@ -22,7 +22,7 @@ static void expect(int holds, const char *what)
 /* An answer's number is the constant. */
 #define GIVES(call, constant) expect((call).number == (constant), #constant ": " #call)
 
-static int32_t samples[LAMPCOIL_BLOCK_SAMPLES + 1];
+static int32_t samples[LAMPCOIL_BLOCK_SAMPLES + 1], joined[LAMPCOIL_BLOCK_SAMPLES], voice[LAMPCOIL_VOICE_SAMPLES + 1];
 static uint8_t side[LAMPCOIL_SIDE_OCTETS + 1], line[LAMPCOIL_FIND_MOST_OCTETS + 1];
 static uint32_t words[LAMPCOIL_MADI_MOST_CHANNELS + 1], bodies[LAMPCOIL_PACKET_BODIES + 1];
 static uint16_t packet[LAMPCOIL_PACKET_WORDS + 1], repaired[LAMPCOIL_PACKET_WORDS + 1];
@@ -255,8 +255,8 @@ static void test_status(void)
 /* Each number has a text of its own, and no other number has one. */
 static void test_texts(void)
 {
-    const char *none = lampcoil_refusal_text(LAMPCOIL_REFUSED_WORD_LENGTH + 1);
-    for (uint32_t k = LAMPCOIL_ACCEPTED; k <= LAMPCOIL_REFUSED_WORD_LENGTH; k++) {
+    const char *none = lampcoil_refusal_text(LAMPCOIL_REFUSED_FAULT_MAP + 1);
+    for (uint32_t k = LAMPCOIL_ACCEPTED; k <= LAMPCOIL_REFUSED_FAULT_MAP; k++) {
         EXPECT(strcmp(lampcoil_refusal_text(k), none) != 0);
         for (uint32_t j = LAMPCOIL_ACCEPTED; j < k; j++)
             EXPECT(strcmp(lampcoil_refusal_text(k), lampcoil_refusal_text(j)) != 0);
@@ -264,11 +264,45 @@ static void test_texts(void)
     EXPECT(lampcoil_refusal_text(UINT32_MAX) == none);
 }
 
+static lampcoil_verdict join(size_t program_len, size_t voice_len)
+{
+    return lampcoil_talkback_join(samples, program_len, voice, voice_len, side, LAMPCOIL_SIDE_OCTETS, joined,
+                                  LAMPCOIL_BLOCK_SAMPLES);
+}
+
+static lampcoil_verdict separate(size_t program_len, size_t voice_len)
+{
+    return lampcoil_talkback_separate(joined, LAMPCOIL_BLOCK_SAMPLES, side, LAMPCOIL_SIDE_OCTETS, samples, program_len,
+                                      voice, voice_len);
+}
+
+/* What joining and separating refuse. */
+static void test_talkback(void)
+{
+    const size_t n = LAMPCOIL_BLOCK_SAMPLES, v = LAMPCOIL_VOICE_SAMPLES;
+    quiet();
+    GIVES(join(n, v), LAMPCOIL_REFUSED_UNDECLARED);
+    side[LAMPCOIL_SIDE_C_A + 2] = 2;
+    GIVES(join(n, v), LAMPCOIL_REFUSED_UNDECLARED);
+    EXPECT(join(n, v).place == 1);
+    side[LAMPCOIL_SIDE_C_B + 2] = 2;
+    GIVES(join(n, v), LAMPCOIL_ACCEPTED);
+    GIVES(separate(n, v), LAMPCOIL_ACCEPTED);
+    GIVES(join(n, v - 1), LAMPCOIL_REFUSED_LENGTH);
+    GIVES(join(n, v + 1), LAMPCOIL_REFUSED_LENGTH);
+    GIVES(separate(n, v - 1), LAMPCOIL_REFUSED_LENGTH);
+    GIVES(separate(n, v + 1), LAMPCOIL_REFUSED_LENGTH);
+    voice[v - 1] = 2048;
+    GIVES(join(n, v), LAMPCOIL_REFUSED_SAMPLE);
+    EXPECT(join(n, v).place == n + v - 1);
+}
+
 int main(void)
 {
     test_block_lengths();
     test_block_refusals();
     test_columns();
+    test_talkback();
     test_madi();
     test_packet();
     test_status();

@@ -359,6 +359,43 @@ static void test_aligned(void)
     expect(v.number == 2 && v.place == 0, "a symbol too few");
 }
 
+/* Appendix A to part 3 of BS.647: a voice sample in slots 4 to 7 of three frames, the lowest four bits in frame 0. The
+   program has slots 8 to 27, and comes back with the voice, also over the line. */
+static void test_talkback(void)
+{
+    static int32_t program[384], joined[384], samples[384], back[384], voice[128], heard[128];
+    static uint8_t side[LAMPCOIL_SIDE_OCTETS], read[LAMPCOIL_SIDE_OCTETS], line[3072];
+    quiet_block(program, side);
+    expect(lampcoil_talkback_join(program, 384, voice, 128, side, sizeof side, joined, 384).number == 19, "the use is not declared");
+    lampcoil_status_edit(side + LAMPCOIL_SIDE_C_A, 24, 2, 2);
+    lampcoil_status_edit(side + LAMPCOIL_SIDE_C_B, 24, 2, 2);
+    program[0] = 0x123450;
+    program[1] = -16;
+    program[383] = -8388608;
+    voice[0] = 0x123;
+    voice[1] = -1;
+    voice[2] = -2048;
+    voice[127] = 2047;
+    lampcoil_verdict v = lampcoil_talkback_join(program, 384, voice, 128, side, sizeof side, joined, 384);
+    expect(v.number == 0, "joined");
+    expect(joined[0] == 0x123453 && joined[2] == 2 && joined[4] == 1, "1, 2, 3 in A: 3 in frame 0");
+    expect(joined[1] == -1 && joined[3] == 15 && joined[5] == 15, "-1 in B");
+    expect(joined[6] == 0 && joined[8] == 0 && joined[10] == 8, "the sign in frame 5 of A");
+    expect(joined[379] == 15 && joined[381] == 15 && joined[383] == -8388601, "the last voice sample");
+    expect(lampcoil_aes3_write(joined, 384, side, sizeof side, 1, line, 3072).number == 0, "the writer takes it");
+    expect(lampcoil_aes3_read(line, 3072, samples, 384, read, sizeof read).number == 0, "and the reader");
+    v = lampcoil_talkback_separate(samples, 384, read, sizeof read, back, 384, heard, 128);
+    expect(v.number == 0, "separated");
+    expect(memcmp(back, program, sizeof program) == 0 && memcmp(heard, voice, sizeof voice) == 0, "program and voice come back");
+    program[5] = 8;
+    voice[3] = 2048;
+    v = lampcoil_talkback_join(program, 384, voice, 128, side, sizeof side, joined, 384);
+    expect(v.number == 3 && v.place == 5, "a busy low bit is 3 at its sample");
+    program[5] = 0;
+    v = lampcoil_talkback_join(program, 384, voice, 128, side, sizeof side, joined, 384);
+    expect(v.number == 3 && v.place == 387, "voice sample 3 outside is 3 at 387");
+}
+
 int main(void)
 {
     test_bodies();
@@ -374,6 +411,7 @@ int main(void)
     test_madi_counts();
     test_compared();
     test_aligned();
+    test_talkback();
     printf("listed: %d passed, %d failed\n", passed, failed);
     return failed != 0;
 }

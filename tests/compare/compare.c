@@ -8,7 +8,7 @@
 #include <sys/mman.h>
 #include <unistd.h>
 
-enum { SLOTS = 3, ROOM = 65536, ZONE = 64, ENTRIES = 32, NUMBERS = 24, SHOWN = 20 };
+enum { SLOTS = 4, ROOM = 65536, ZONE = 64, ENTRIES = 32, NUMBERS = 24, SHOWN = 20 };
 
 typedef struct {
     uint8_t *rooms[2];       /* the library's and the second program's */
@@ -209,7 +209,7 @@ static unsigned long print_tallies(void)
 {
     unsigned long all = 0;
     for (int k = 0; k < ENTRIES && tallies[k].name != NULL; k++) {
-        printf("%-14s %7lu cases;", tallies[k].name, tallies[k].cases);
+        printf("%-17s %7lu cases;", tallies[k].name, tallies[k].cases);
         for (int n = 0; n < NUMBERS; n++)
             if (tallies[k].seen[n] != 0)
                 printf(" %d:%lu", n, tallies[k].seen[n]);
@@ -231,6 +231,7 @@ int main(int argc, char **argv)
     compare_hd(cases);
     compare_madi(cases);
     compare_aes3(cases);
+    compare_talkback(cases);
     unsigned long all = print_tallies();
     failures = failures + edges_missing();
     printf("library and second program: %lu cases, %d differences\n", all, failures);

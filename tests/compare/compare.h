@@ -61,6 +61,7 @@ void compare_aes3(uint32_t cases);
 void compare_length(void);
 void compare_madi(uint32_t cases);
 void compare_hd(uint32_t cases);
+void compare_talkback(uint32_t cases);
 
 /* Things that are valid, for the cases to damage. */
 uint32_t even_body(void);                        /* a body with even parity, sometimes all zero */

@@ -8,7 +8,7 @@
 #include <sys/mman.h>
 #include <unistd.h>
 
-enum { MEMORY = 65536, MOST_SLICES = 3, TIMES = 8 };
+enum { MEMORY = 65536, MOST_SLICES = 4, TIMES = 8 };
 
 /* Every slice argument of the header; tests/compared holds what is printed below to the header itself. */
 static const struct { const char *entry, *argument; } slices[] = {
@@ -20,6 +20,9 @@ static const struct { const char *entry, *argument; } slices[] = {
     {"aes3_align", "block"},    {"madi_write", "words"},   {"madi_write", "line"},
     {"madi_read", "line"},      {"madi_read", "words"},     {"hd_write", "bodies"},    {"hd_write", "words"},
     {"hd_read", "words"},       {"hd_read", "bodies"},      {"hd_repair", "words"},    {"hd_repair", "repaired"},
+    {"talkback_join", "program"},      {"talkback_join", "voice"},       {"talkback_join", "side"},
+    {"talkback_join", "samples"},      {"talkback_separate", "samples"}, {"talkback_separate", "side"},
+    {"talkback_separate", "program"},  {"talkback_separate", "voice"},
 };
 enum { SLICES = sizeof slices / sizeof slices[0] };
 

@@ -60,6 +60,10 @@ second_aes3_read_answer second_aes3_read(const uint8_t *line, size_t line_len, i
                                          size_t side_len);
 second_aes3_start second_aes3_find(const uint8_t *line, size_t line_len);
 second_verdict second_aes3_align(const uint8_t *line, size_t line_len, uint32_t position, uint8_t *block, size_t block_len);
+second_verdict second_talkback_join(const int32_t *program, size_t program_len, const int32_t *voice, size_t voice_len,
+                                    const uint8_t *side, size_t side_len, int32_t *samples, size_t samples_len);
+second_verdict second_talkback_separate(const int32_t *samples, size_t samples_len, const uint8_t *side, size_t side_len,
+                                        int32_t *program, size_t program_len, int32_t *voice, size_t voice_len);
 
 second_verdict second_madi_write(uint32_t channels, const uint32_t *words, size_t words_len, uint32_t syncs, uint32_t level,
                                  uint8_t *line, size_t line_len);

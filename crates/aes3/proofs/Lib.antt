@@ -1,3 +1,4 @@
 pub mod BlockTrips
 pub mod FaultMap
 pub mod FoundStart
+pub mod TalkbackTrips

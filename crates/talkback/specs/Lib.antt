@@ -1,0 +1,2 @@
+pub mod Talkback
+pub mod Inner
