@@ -13,6 +13,7 @@ use Rattle.answer.specs.Demand.{Demand, Demand.asks, provided}
 use Rattle.subframe.specs.Body.{evenBody}
 use Rattle.line.specs.Nrzi.{changes}
 use Rattle.madi_code.specs.Frame.{counted, boundary}
+pub use Rattle.madi_code.specs.Frame.{cleared}
 use Rattle.madi_code.specs.Groups.{sync}
 use Rattle.madi_code.specs.Channels.{channelOf}
 use Rattle.madi_code.specs.declared.ChannelBits.{ChannelBits}
@@ -47,10 +48,6 @@ placeOf f = boundary (f .channels) (f .syncs)
 -- a sync more
 abbrev pub withSync : Frame → Frame
 withSync f = record { channels = f .channels; active = f .active; syncs = f .syncs + 1; words = f .words }
-
--- bits 0 and 1 cleared
-abbrev pub cleared : ℕ → ℕ
-cleared w = w - w % 4
 
 -- a channel more
 abbrev pub withChannel : ℕ → Frame → Frame
