@@ -16,6 +16,7 @@
 #define lampcoil_status_edit hand_status_edit
 #define lampcoil_madi_write hand_madi_write
 #define lampcoil_madi_read hand_madi_read
+#define lampcoil_madi_patch hand_madi_patch
 #define lampcoil_hd_write hand_hd_write
 #define lampcoil_hd_read hand_hd_read
 #define lampcoil_hd_repair hand_hd_repair

@@ -256,6 +256,32 @@ static int carry(const tenant *t, uint32_t dbn, memory *m)
     return talk_back(t, m) || over_madi(t, 0, m) || over_hd(t, dbn, m);
 }
 
+/* Both tenants on one frame, slots 0 and 1 the first's, 2 and 3 the second's. Each turns its two around, but the second
+   asks for a slot of the first in its last one, and gets silence. The frame goes out on MADI as it is. */
+static int patch(const tenant *one, const tenant *two, memory *m)
+{
+    static const uint8_t owners[CHANNELS] = {1, 1, 2, 2};
+    static const uint32_t rows[CHANNELS] = {1, 0, 3, 0};
+    uint32_t in[CHANNELS] = {0}, out[CHANNELS];
+    uint8_t verdicts[CHANNELS];
+    for (uint32_t k = 0; k < 4; k++)
+        if (body_of(k < 2 ? one : two, k % 2, 0, &in[k]))
+            return 1;
+    lampcoil_verdict v = lampcoil_madi_patch(CHANNELS, 4, owners, CHANNELS, owners, CHANNELS, rows, CHANNELS, in, CHANNELS, out,
+                                             CHANNELS, verdicts, CHANNELS);
+    if (REFUSED("patch", v))
+        return 1;
+    printf("patch: verdicts %u %u %u %u\n", verdicts[0], verdicts[1], verdicts[2], verdicts[3]);
+    if (verdicts[2] != LAMPCOIL_PATCH_CARRIED || verdicts[3] != LAMPCOIL_PATCH_FOREIGN || out[2] != in[3] || out[3] != 0)
+        return differ("patch");
+    v = lampcoil_madi_write(CHANNELS, out, 4, SYNCS, 0, m->madi, sizeof m->madi);
+    if (REFUSED("madi write", v))
+        return 1;
+    lampcoil_madi_read_answer r = lampcoil_madi_read(CHANNELS, 0, LAMPCOIL_MADI_BITS(CHANNELS, SYNCS), m->madi,
+                                                     sizeof m->madi, m->words, CHANNELS);
+    return REFUSED("madi read", r) || memcmp(m->words, out, sizeof out) != 0 ? differ("patched frame") : 0;
+}
+
 /* A block that the way has damaged: it is refused, and the buffers are as before it came. */
 static int receive_damaged(const memory *first, memory *m)
 {
@@ -294,7 +320,7 @@ static int search(const memory *first, const memory *silence, const memory *now)
 int main(void)
 {
     static tenant one, two, none;
-    static memory scratch, after_one, silence;
+    static memory scratch, after_one, silence, shared;
     if (play(&one, "NORTH", 87381) || play(&two, "WEST", 4450003) || play(&none, "quiet", 0))
         return 1;
     if (carry(&none, 0, &silence) || carry(&one, 255, &scratch))
@@ -304,6 +330,8 @@ int main(void)
         return 1;
     lampcoil_dbn next = lampcoil_hd_next_dbn(255);
     if (REFUSED("next data block", next) || carry(&two, next.dbn, &scratch))
+        return 1;
+    if (patch(&one, &two, &shared))
         return 1;
     return search(&after_one, &silence, &scratch);
 }

@@ -30,9 +30,9 @@ extern "C" {
 #endif
 
 /* The version of this header and of the library beside it. A larger MAJOR may take something away; MINOR adds. */
-#define LAMPCOIL_VERSION "3.1.0"
+#define LAMPCOIL_VERSION "3.2.0"
 #define LAMPCOIL_VERSION_MAJOR 3
-#define LAMPCOIL_VERSION_MINOR 1
+#define LAMPCOIL_VERSION_MINOR 2
 #define LAMPCOIL_VERSION_PATCH 0
 
 /* Numbers that come back, and what their place is; lampcoil_refusal_text tells when each is given. */
@@ -323,6 +323,26 @@ typedef struct { uint32_t number, place, active, syncs; } lampcoil_madi_read_ans
 lampcoil_madi_read_answer lampcoil_madi_read(uint32_t channels, uint32_t level, uint32_t bits,
                                              const uint8_t *line, size_t line_len,
                                              uint32_t *words, size_t words_len);
+
+/* Patches a frame between tenants. Slot k of the frame in belongs to tenant owners_in[k], output slot k to tenant
+   owners_out[k]; 0 is the house, a tenant like the others. rows[k] names the input slot that goes to output slot k; a
+   number at or above `active` names none. An output slot is carried only if both slots are active, below `active`,
+   and of one tenant, and the input word's slots 4 to 31 hold an even number of ones: it then has the input word, bits 0
+   and 1 cleared. Every other output slot is 0. verdicts[k] says which of these it was, the first that applies of NONE,
+   FOREIGN and PARITY. Output words and verdicts of a tenant depend, beside the owners and `active`, only on that
+   tenant's own rows and input slots. lampcoil_madi_write takes the first `active` words.
+   Order: RANGE (channels 56 or 64, active 1 to channels), LENGTH (each of the six as many elements as channels). */
+#define LAMPCOIL_PATCH_CARRIED 0u
+#define LAMPCOIL_PATCH_NONE 1u
+#define LAMPCOIL_PATCH_FOREIGN 2u
+#define LAMPCOIL_PATCH_PARITY 3u
+lampcoil_verdict lampcoil_madi_patch(uint32_t channels, uint32_t active,
+                                     const uint8_t *owners_in, size_t owners_in_len,
+                                     const uint8_t *owners_out, size_t owners_out_len,
+                                     const uint32_t *rows, size_t rows_len,
+                                     const uint32_t *frame_in, size_t frame_in_len,
+                                     uint32_t *frame_out, size_t frame_out_len,
+                                     uint8_t *verdicts, size_t verdicts_len);
 
 /* ---- HD audio data packet: 31 words of ten bits, four bodies. ---- */
 

@@ -175,6 +175,27 @@ static void test_madi(void)
     GIVES(lampcoil_madi_read(most, 0, bits, line, octets, words, most), LAMPCOIL_REFUSED_GROUP);
 }
 
+/* A verdict of each kind: slot 0 to itself, to no slot, to another tenant's slot, and to itself with odd parity. */
+static void test_verdicts(void)
+{
+    uint8_t owners[LAMPCOIL_MADI_MOST_CHANNELS] = {1, 2}, verdicts[LAMPCOIL_MADI_MOST_CHANNELS];
+    uint32_t rows[LAMPCOIL_MADI_MOST_CHANNELS] = {0}, out[LAMPCOIL_MADI_MOST_CHANNELS];
+    const size_t n = LAMPCOIL_MADI_MOST_CHANNELS;
+    memset(words, 0, sizeof words);
+    GIVES(lampcoil_madi_patch(64, 64, owners, n, owners, n, rows, n, words, n, out, n, verdicts, n), LAMPCOIL_ACCEPTED);
+    EXPECT(verdicts[0] == LAMPCOIL_PATCH_CARRIED);
+    rows[0] = 64;
+    lampcoil_madi_patch(64, 64, owners, n, owners, n, rows, n, words, n, out, n, verdicts, n);
+    EXPECT(verdicts[0] == LAMPCOIL_PATCH_NONE);
+    rows[0] = 1;
+    lampcoil_madi_patch(64, 64, owners, n, owners, n, rows, n, words, n, out, n, verdicts, n);
+    EXPECT(verdicts[0] == LAMPCOIL_PATCH_FOREIGN);
+    rows[0] = 0;
+    words[0] = 0x10;
+    lampcoil_madi_patch(64, 64, owners, n, owners, n, rows, n, words, n, out, n, verdicts, n);
+    EXPECT(verdicts[0] == LAMPCOIL_PATCH_PARITY);
+}
+
 static lampcoil_verdict write_packet(size_t bodies_len, size_t words_len)
 {
     return lampcoil_hd_write(1, 2, 3, 0, 1, 0, bodies, bodies_len, packet, words_len);
@@ -304,6 +325,7 @@ int main(void)
     test_columns();
     test_talkback();
     test_madi();
+    test_verdicts();
     test_packet();
     test_status();
     test_texts();

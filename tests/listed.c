@@ -315,6 +315,37 @@ static void test_madi_counts(void)
     expect(r.number == 12 && r.place == 0, "0 active channels read");
 }
 
+/* The patch: each verdict, the first that applies; what is carried of a word; refusals in their order. */
+static void test_patch(void)
+{
+    uint8_t ins[64] = {1, 2, 1}, outs[64] = {1, 1, 2, 2, 1, 1}, verdicts[64];
+    uint32_t rows[64] = {2, 1, 1, 2, 3, 4}, in[64] = {0x30, 0x10, 0x3F, 0x3F, 0x3F}, out[64];
+    for (int k = 6; k < 64; k++)
+        rows[k] = k % 2 == 0 ? 0xFFFFFFFFu : 4;
+    ins[3] = ins[4] = 1;
+    lampcoil_verdict v = lampcoil_madi_patch(64, 4, ins, 64, outs, 64, rows, 64, in, 64, out, 64, verdicts, 64);
+    expect(v.number == 0 && verdicts[0] == 0 && out[0] == 0x3C, "carried, bits 0 and 1 cleared, bits 2 and 3 kept");
+    expect(verdicts[1] == 2 && out[1] == 0, "another tenant's slot of odd parity is foreign");
+    expect(verdicts[2] == 3 && out[2] == 0, "the tenant's own slot of odd parity");
+    expect(verdicts[3] == 2 && out[3] == 0, "another tenant's slot");
+    expect(verdicts[4] == 1 && out[4] == 0, "an output slot at the active count");
+    rows[0] = 4;
+    lampcoil_madi_patch(64, 4, ins, 64, outs, 64, rows, 64, in, 64, out, 64, verdicts, 64);
+    expect(verdicts[0] == 1 && out[0] == 0, "a row that names a slot at the active count");
+    rows[0] = 0xFFFFFFFFu;
+    lampcoil_madi_patch(64, 4, ins, 64, outs, 64, rows, 64, in, 64, out, 64, verdicts, 64);
+    expect(verdicts[0] == 1 && verdicts[63] == 1 && out[63] == 0, "a row that names no slot");
+    rows[0] = 3;
+    ins[3] = outs[0] = 0;
+    lampcoil_madi_patch(64, 4, ins, 64, outs, 64, rows, 64, in, 64, out, 64, verdicts, 64);
+    expect(verdicts[0] == 0 && out[0] == 0x3C, "the house is one tenant");
+    expect(lampcoil_madi_patch(60, 4, ins, 0, outs, 64, rows, 64, in, 64, out, 64, verdicts, 64).number == 2, "2 goes before 1");
+    expect(lampcoil_madi_patch(64, 0, ins, 64, outs, 64, rows, 64, in, 64, out, 64, verdicts, 64).number == 2, "no active slot");
+    expect(lampcoil_madi_patch(56, 57, ins, 56, outs, 56, rows, 56, in, 56, out, 56, verdicts, 56).number == 2, "57 of 56");
+    expect(lampcoil_madi_patch(56, 56, ins, 64, outs, 56, rows, 56, in, 56, out, 56, verdicts, 56).number == 1, "64 owners of 56");
+    expect(lampcoil_madi_patch(64, 64, ins, 64, outs, 64, rows, 64, in, 64, out, 64, verdicts, 63).number == 1, "63 verdicts");
+}
+
 /* The number of symbols that the search compares. */
 static void test_compared(void)
 {
@@ -409,6 +440,7 @@ int main(void)
     test_packet();
     test_madi();
     test_madi_counts();
+    test_patch();
     test_compared();
     test_aligned();
     test_talkback();

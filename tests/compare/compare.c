@@ -8,7 +8,7 @@
 #include <sys/mman.h>
 #include <unistd.h>
 
-enum { SLOTS = 4, ROOM = 65536, ZONE = 64, ENTRIES = 32, NUMBERS = 24, SHOWN = 20 };
+enum { SLOTS = 6, ROOM = 65536, ZONE = 64, ENTRIES = 32, NUMBERS = 24, SHOWN = 20 };
 
 typedef struct {
     uint8_t *rooms[2];       /* the library's and the second program's */
@@ -232,6 +232,7 @@ int main(int argc, char **argv)
     compare_madi(cases);
     compare_aes3(cases);
     compare_talkback(cases);
+    compare_patch(cases);
     unsigned long all = print_tallies();
     failures = failures + edges_missing();
     printf("library and second program: %lu cases, %d differences\n", all, failures);

@@ -8,7 +8,7 @@
 #include <sys/mman.h>
 #include <unistd.h>
 
-enum { MEMORY = 65536, MOST_SLICES = 4, TIMES = 8 };
+enum { MEMORY = 65536, MOST_SLICES = 6, TIMES = 8 };
 
 /* Every slice argument of the header; tests/compared holds what is printed below to the header itself. */
 static const struct { const char *entry, *argument; } slices[] = {
@@ -23,6 +23,8 @@ static const struct { const char *entry, *argument; } slices[] = {
     {"talkback_join", "program"},      {"talkback_join", "voice"},       {"talkback_join", "side"},
     {"talkback_join", "samples"},      {"talkback_separate", "samples"}, {"talkback_separate", "side"},
     {"talkback_separate", "program"},  {"talkback_separate", "voice"},
+    {"madi_patch", "owners_in"}, {"madi_patch", "owners_out"}, {"madi_patch", "rows"}, {"madi_patch", "frame_in"},
+    {"madi_patch", "frame_out"}, {"madi_patch", "verdicts"},
 };
 enum { SLICES = sizeof slices / sizeof slices[0] };
 

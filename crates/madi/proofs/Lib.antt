@@ -5,3 +5,4 @@ pub mod CountsStood
 pub mod LastSyncs
 pub mod Words
 pub mod WriteBack
+pub mod Patched

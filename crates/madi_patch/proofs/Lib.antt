@@ -1,0 +1,5 @@
+pub mod Listing
+pub mod SlotLaws
+pub mod PatchLaws
+pub mod Separation
+pub mod Residue
