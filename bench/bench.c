@@ -95,6 +95,20 @@ static lampcoil_verdict sealed_afresh(uint8_t *block, size_t octets, uint32_t by
 EDIT(library_edit, lampcoil_status_edit)
 EDIT(by_hand_edit, hand_status_edit)
 EDIT(afresh_edit, sealed_afresh)
+
+/* A block is added to a sheet in place, so each call starts from the same sheet, of one block. */
+static int64_t sheet[20], back_sheet[20];
+
+#define ADD(name, add)                                                                                                           \
+    static lampcoil_verdict name##_once(void)                                                                                    \
+    {                                                                                                                            \
+        memcpy(back_sheet, sheet, sizeof sheet);                                                                                 \
+        return add(back_sheet, 20, samples, 384, side, 192);                                                                     \
+    }                                                                                                                            \
+    PROGRAM(name, lampcoil_verdict, name##_once())
+
+ADD(library_level_add, lampcoil_level_add)
+ADD(by_hand_level_add, hand_level_add)
 PROGRAM(by_hand_by_candidate, lampcoil_aes3_start, hand_aes3_find_by_candidate(hunted, HUNTED))
 
 static uint32_t state = 1;
@@ -158,6 +172,8 @@ static void prepare_carriers(void)
     }
     memcpy(status, side + 48, sizeof status);
     memcpy(bodies, words, sizeof bodies);
+    lampcoil_level_start(sheet, 20);
+    lampcoil_level_add(sheet, 20, samples, 384, side, 192);
     lampcoil_aes3_write(samples, 384, side, 192, 0, line, 3072);
     for (int k = 0; k < 3072; k++) /* the last symbol of each subframe, and all after it, turned over */
         odd_line[k] = (uint8_t)(line[k] ^ (k / 8 % 2 == 0 ? 0x00 : 0xFF) ^ (k % 8 == 7 ? 0x01 : 0x00));
@@ -250,6 +266,7 @@ static const operation all[] = {
     {"AES3 read, a block", &library_aes3_read, &by_hand_aes3_read, nothing, 3072, {FILLS(back_samples), FILLS(back_side)}},
     {"AES3 read, a fault in every subframe", &library_aes3_read_odd, &by_hand_aes3_read_odd, nothing, 3072,
      {FILLS(back_samples), FILLS(back_side)}},
+    {"level sheet, a block added", &library_level_add, &by_hand_level_add, nothing, 1536, {FILLS(back_sheet)}},
     {"hunt, 8,192 octets at random, no start; C 64 symbols at once", &library_find, &by_hand_find, hunt_noise, HUNTED, {{0}}},
     {"the same; C candidate by candidate", &library_find, &by_hand_by_candidate, hunt_noise, HUNTED, {{0}}},
     {"hunt, 8,192 octets with Z in each, no start; C 64 symbols at once", &library_find, &by_hand_find, hunt_z, HUNTED, {{0}}},
@@ -275,6 +292,7 @@ int main(void)
     hand_init_aes3();
     hand_init_madi();
     hand_init_hd();
+    hand_init_levels();
     prepare_carriers();
     printf("| operation | library, ns | C by hand, ns | ratio | memcpy of the carrier, ns | ratio |\n|---|---|---|---|---|---|\n");
     for (size_t k = 0; k < sizeof all / sizeof all[0]; k++) {

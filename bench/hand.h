@@ -11,6 +11,7 @@
 void hand_init_aes3(void);
 void hand_init_madi(void);
 void hand_init_hd(void);
+void hand_init_levels(void);
 
 lampcoil_verdict hand_aes3_write(const int32_t *samples, size_t samples_len, const uint8_t *side, size_t side_len, uint32_t level,
                                  uint8_t *line, size_t line_len);
@@ -35,6 +36,9 @@ lampcoil_verdict hand_talkback_join(const int32_t *program, size_t program_len, 
                                     const uint8_t *side, size_t side_len, int32_t *samples, size_t samples_len);
 lampcoil_verdict hand_talkback_separate(const int32_t *samples, size_t samples_len, const uint8_t *side, size_t side_len,
                                         int32_t *program, size_t program_len, int32_t *voice, size_t voice_len);
+
+lampcoil_verdict hand_level_add(int64_t *sheet, size_t sheet_len, const int32_t *samples, size_t samples_len, const uint8_t *side,
+                                size_t side_len);
 
 /* Eight octets, the first highest, on a machine that has the lowest first. */
 static inline uint64_t load_be64(const uint8_t *p)

@@ -6,4 +6,5 @@ __attribute__((constructor)) static void fill_tables(void)
     hand_init_aes3();
     hand_init_madi();
     hand_init_hd();
+    hand_init_levels();
 }

@@ -22,5 +22,6 @@
 #define lampcoil_hd_repair hand_hd_repair
 #define lampcoil_talkback_join hand_talkback_join
 #define lampcoil_talkback_separate hand_talkback_separate
+#define lampcoil_level_add hand_level_add
 
 #endif

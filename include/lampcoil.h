@@ -30,9 +30,9 @@ extern "C" {
 #endif
 
 /* The version of this header and of the library beside it. A larger MAJOR may take something away; MINOR adds. */
-#define LAMPCOIL_VERSION "3.2.0"
+#define LAMPCOIL_VERSION "3.3.0"
 #define LAMPCOIL_VERSION_MAJOR 3
-#define LAMPCOIL_VERSION_MINOR 2
+#define LAMPCOIL_VERSION_MINOR 3
 #define LAMPCOIL_VERSION_PATCH 0
 
 /* Numbers that come back, and what their place is; lampcoil_refusal_text tells when each is given. */
@@ -57,6 +57,7 @@ extern "C" {
 #define LAMPCOIL_REFUSED_WORD_LENGTH 18u /* place: sample index */
 #define LAMPCOIL_REFUSED_UNDECLARED 19u  /* place: channel */
 #define LAMPCOIL_REFUSED_FAULT_MAP 20u   /* place: subframe */
+#define LAMPCOIL_REFUSED_FULL 22u
 
 /* When a number is given, in words; never null. */
 static inline const char *lampcoil_refusal_text(uint32_t number)
@@ -83,6 +84,8 @@ static inline const char *lampcoil_refusal_text(uint32_t number)
         "writer: a sample has a 1 below the word length that its channel's status declares",
         "talkback: status byte 2 bits 2, 1, 0 are not 0, 1, 0",
         "writer: an E of the side table is set",
+        "not a number of this library",
+        "a channel of a level sheet would pass 2^32 samples",
     };
     return number < sizeof texts / sizeof texts[0] ? texts[number] : "not a number of this library";
 }
@@ -102,6 +105,7 @@ static inline const char *lampcoil_refusal_text(uint32_t number)
 #define LAMPCOIL_MADI_OCTETS(channels, syncs) ((LAMPCOIL_MADI_BITS(channels, syncs) + 7u) / 8u)
 #define LAMPCOIL_PACKET_WORDS 31u
 #define LAMPCOIL_PACKET_BODIES 4u
+#define LAMPCOIL_SHEET_NUMBERS 20u
 
 /* Where the columns of a side table begin: 24 octets each; bit i of octet j belongs to frame 8j+i, bit 0 has weight 1.
    The C column of a channel is its channel status. E is the fault map: see aes3_read. */
@@ -379,6 +383,32 @@ lampcoil_lane lampcoil_lane_repair(uint32_t lane);
    count, and the next after 0 is 0. lampcoil_hd_write and lampcoil_hd_read take any of 0 to 255. RANGE above 255. */
 typedef struct { uint32_t number, place, dbn; } lampcoil_dbn;
 lampcoil_dbn lampcoil_hd_next_dbn(uint32_t dbn);
+
+/* ---- Level sheet: figures on any number of blocks, for each channel. ---- */
+
+/* A channel of a sheet; a sheet is two of them, A and then B: 20 numbers. `absent` is 1 with no samples, else 0; smallest,
+   largest and magnitude are then 0. The magnitude of the lowest sample is 8,388,608; `ends` counts samples of 8,388,607
+   and of -8,388,608, both together; the last three count frames with V set, frames with E set, and blocks whose CRCC of
+   that channel is right. */
+typedef struct {
+    int64_t samples, absent, smallest, largest, magnitude, sum, ends, v_frames, e_frames, right_blocks;
+} lampcoil_level_channel;
+
+/* Makes a sheet the one of no blocks. LENGTH unless 20 numbers. */
+lampcoil_verdict lampcoil_level_start(int64_t *sheet, size_t sheet_len);
+
+/* Adds a block to a sheet, in place. Of the block only the lengths and the samples are judged. A refusal leaves the
+   sheet as it was.
+   Order: LENGTH (each buffer), RANGE (the sheet is none: samples below 0 or above 2^32, another count below 0 or above
+   them, a sum beyond 8,388,608 times them, smallest or largest beyond 24 bits, a magnitude below 0 or above 8,388,608,
+   a mark that is not 1 exactly with no samples, or smallest, largest or magnitude not 0 then), SAMPLE, FULL (a channel
+   would pass 2^32 samples). */
+lampcoil_verdict lampcoil_level_add(int64_t *sheet, size_t sheet_len, const int32_t *samples, size_t samples_len,
+                                    const uint8_t *side, size_t side_len);
+
+/* Joins the sheet of a later stretch to that of an earlier one, in its place: the sheet of both on end. Whatever the order in
+   which three are joined, the result is the same. Order: LENGTH (both), RANGE (either, as above), FULL. */
+lampcoil_verdict lampcoil_level_join(int64_t *sheet, size_t sheet_len, const int64_t *later, size_t later_len);
 
 #ifdef __cplusplus
 }

@@ -258,6 +258,22 @@ static const row rows[] = {
     ROW(2, 0x40, alignment, LAMPCOIL_ALIGNMENT_R68),
 };
 
+static void test_sheet(void)
+{
+    int64_t sheet[LAMPCOIL_SHEET_NUMBERS + 1] = {0};
+    const size_t n = LAMPCOIL_SHEET_NUMBERS;
+    EXPECT(n * sizeof sheet[0] == 2 * sizeof(lampcoil_level_channel));
+    GIVES(lampcoil_level_start(sheet, n - 1), LAMPCOIL_REFUSED_LENGTH);
+    GIVES(lampcoil_level_start(sheet, n + 1), LAMPCOIL_REFUSED_LENGTH);
+    GIVES(lampcoil_level_start(sheet, n), LAMPCOIL_ACCEPTED);
+    quiet();
+    GIVES(lampcoil_level_add(sheet, n, samples, LAMPCOIL_BLOCK_SAMPLES, side, LAMPCOIL_SIDE_OCTETS), LAMPCOIL_ACCEPTED);
+    sheet[0] = 4294967296;
+    GIVES(lampcoil_level_add(sheet, n, samples, LAMPCOIL_BLOCK_SAMPLES, side, LAMPCOIL_SIDE_OCTETS), LAMPCOIL_REFUSED_FULL);
+    sheet[0] = 4294967297;
+    GIVES(lampcoil_level_add(sheet, n, samples, LAMPCOIL_BLOCK_SAMPLES, side, LAMPCOIL_SIDE_OCTETS), LAMPCOIL_REFUSED_RANGE);
+}
+
 static void test_status(void)
 {
     uint8_t status[LAMPCOIL_STATUS_OCTETS] = {0};
@@ -328,6 +344,7 @@ int main(void)
     test_verdicts();
     test_packet();
     test_status();
+    test_sheet();
     test_texts();
     printf("constants: %d passed, %d failed\n", passed, failed);
     return failed != 0;

@@ -427,6 +427,48 @@ static void test_talkback(void)
     expect(v.number == 3 && v.place == 387, "voice sample 3 outside is 3 at 387");
 }
 
+/* The lowest sample, both ends, the mark, a sheet that is full; two stretches on end. */
+static void test_levels(void)
+{
+    static int32_t samples[384];
+    static uint8_t side[192];
+    lampcoil_level_channel sheet[2], other[2], kept[2];
+    int64_t *s = &sheet[0].samples, *o = &other[0].samples;
+    quiet_block(samples, side);
+    expect(lampcoil_level_start(s, 20).number == 0 && sheet[0].samples == 0 && sheet[0].absent == 1 && sheet[1].absent == 1,
+           "the sheet of no blocks");
+    samples[0] = -8388608;
+    samples[2] = 8388607;
+    samples[3] = 8388606;
+    side[96] = 0x81;
+    side[96 + 72] = 0x10;
+    side[48] ^= 2;
+    expect(lampcoil_level_add(s, 20, samples, 384, side, 192).number == 0, "a block added");
+    expect(sheet[0].samples == 192 && sheet[0].absent == 0 && sheet[0].smallest == -8388608 && sheet[0].largest == 8388607 &&
+           sheet[0].magnitude == 8388608 && sheet[0].sum == -1 && sheet[0].ends == 2, "channel A: the lowest sample and both ends");
+    expect(sheet[0].v_frames == 0 && sheet[0].e_frames == 0 && sheet[0].right_blocks == 0, "channel A: no V, no E, a wrong CRCC");
+    expect(sheet[1].smallest == 0 && sheet[1].largest == 8388606 && sheet[1].ends == 0 && sheet[1].v_frames == 2 &&
+           sheet[1].e_frames == 1 && sheet[1].right_blocks == 1, "channel B: V, E and CRCC of its own");
+    lampcoil_level_start(o, 20);
+    memcpy(kept, sheet, sizeof kept);
+    expect(lampcoil_level_join(s, 20, o, 20).number == 0 && memcmp(kept, sheet, sizeof kept) == 0, "the empty sheet joined");
+    expect(lampcoil_level_join(o, 20, s, 20).number == 0 && memcmp(kept, other, sizeof kept) == 0, "joined to the empty sheet");
+    expect(lampcoil_level_add(o, 20, samples, 384, side, 192).number == 0 && lampcoil_level_join(s, 20, o, 19).number == 1 &&
+           other[0].samples == 384 && other[0].sum == -2 && other[0].ends == 4 && other[0].smallest == -8388608, "two blocks");
+    sheet[1].samples = 4294967296 - 192;
+    expect(lampcoil_level_add(s, 20, samples, 384, side, 192).number == 0 && sheet[1].samples == 4294967296, "2^32 samples");
+    memcpy(kept, sheet, sizeof kept);
+    lampcoil_verdict v = lampcoil_level_add(s, 20, samples, 384, side, 192);
+    expect(v.number == 22 && v.place == 0 && memcmp(kept, sheet, sizeof kept) == 0, "2^32 and one block more");
+    samples[5] = 8388608;
+    v = lampcoil_level_add(s, 20, samples, 384, side, 192);
+    expect(v.number == 3 && v.place == 5, "3 goes before 22");
+    sheet[0].ends = 385;
+    v = lampcoil_level_add(s, 20, samples, 384, side, 192);
+    expect(v.number == 2 && v.place == 0, "2 goes before 3");
+    expect(lampcoil_level_add(s, 20, samples, 383, side, 192).number == 1, "383 samples");
+}
+
 int main(void)
 {
     test_bodies();
@@ -444,6 +486,7 @@ int main(void)
     test_compared();
     test_aligned();
     test_talkback();
+    test_levels();
     printf("listed: %d passed, %d failed\n", passed, failed);
     return failed != 0;
 }

@@ -233,6 +233,7 @@ int main(int argc, char **argv)
     compare_aes3(cases);
     compare_talkback(cases);
     compare_patch(cases);
+    compare_levels(cases);
     unsigned long all = print_tallies();
     failures = failures + edges_missing();
     printf("library and second program: %lu cases, %d differences\n", all, failures);

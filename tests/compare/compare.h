@@ -63,6 +63,7 @@ void compare_madi(uint32_t cases);
 void compare_patch(uint32_t cases);
 void compare_hd(uint32_t cases);
 void compare_talkback(uint32_t cases);
+void compare_levels(uint32_t cases);
 
 /* Things that are valid, for the cases to damage. */
 uint32_t even_body(void);                        /* a body with even parity, sometimes all zero */

@@ -25,6 +25,8 @@ static const struct { const char *entry, *argument; } slices[] = {
     {"talkback_separate", "program"},  {"talkback_separate", "voice"},
     {"madi_patch", "owners_in"}, {"madi_patch", "owners_out"}, {"madi_patch", "rows"}, {"madi_patch", "frame_in"},
     {"madi_patch", "frame_out"}, {"madi_patch", "verdicts"},
+    {"level_start", "sheet"},   {"level_add", "sheet"},     {"level_add", "samples"},  {"level_add", "side"},
+    {"level_join", "sheet"},    {"level_join", "later"},
 };
 enum { SLICES = sizeof slices / sizeof slices[0] };
 

@@ -81,6 +81,11 @@ second_hd_repair_answer second_hd_repair(const uint16_t *words, size_t words_len
 second_lane second_lane_repair(uint32_t lane);
 second_dbn second_hd_next_dbn(uint32_t dbn);
 
+second_verdict second_level_start(int64_t *sheet, size_t sheet_len);
+second_verdict second_level_add(int64_t *sheet, size_t sheet_len, const int32_t *samples, size_t samples_len, const uint8_t *side,
+                                size_t side_len);
+second_verdict second_level_join(int64_t *sheet, size_t sheet_len, const int64_t *later, size_t later_len);
+
 /* Small helps that the files of the second program share. */
 int second_bit(uint32_t number, int place);               /* the bit of weight 2^place */
 uint32_t second_weight(int place);                        /* 2^place */
