@@ -16,7 +16,7 @@ static uint8_t talk_side[LAMPCOIL_SIDE_OCTETS];
 static uint8_t side[192], bound_side[192], back_side[192], line[3072], odd_line[3072], back_line[3072], hunted[HUNTED];
 static uint32_t words[64], back_words[64], bodies[4], back_bodies[4];
 static uint8_t madi[LAMPCOIL_MADI_OCTETS(64, SYNCS)], back_madi[LAMPCOIL_MADI_OCTETS(64, SYNCS)];
-static uint8_t owners_in[64], owners_out[64], verdicts[64];
+static uint8_t leases[64], verdicts[64];
 static uint32_t rows[64];
 static uint16_t packet[31], damaged[31], back_packet[31];
 static uint8_t copy_from[HUNTED], copy_to[HUNTED];
@@ -65,7 +65,7 @@ BOTH(madi_write, lampcoil_verdict, madi_write, (64, words, 64, SYNCS, 0, back_ma
 BOTH(madi_read, lampcoil_madi_read_answer, madi_read,
      (64, 0, LAMPCOIL_MADI_BITS(64, SYNCS), madi, sizeof madi, back_words, 64))
 BOTH(patch, lampcoil_verdict, madi_patch,
-     (64, 64, owners_in, 64, owners_out, 64, rows, 64, words, 64, back_words, 64, verdicts, 64))
+     (64, 64, leases, 64, rows, 64, words, 64, back_words, 64, verdicts, 64))
 BOTH(hd_write, lampcoil_verdict, hd_write, (1, 17, 1234, 0, 1, 0, bodies, 4, back_packet, 31))
 BOTH(hd_read, lampcoil_hd_read_answer, hd_read, (packet, 31, back_bodies, 4))
 BOTH(repair, lampcoil_hd_repair_answer, hd_repair, (packet, 31, back_packet, 31))
@@ -167,7 +167,7 @@ static void prepare_carriers(void)
         voice[k] = (int32_t)(draw() & 0xFFF) - 2048;
     talk_side[LAMPCOIL_SIDE_C_A + 2] = talk_side[LAMPCOIL_SIDE_C_B + 2] = 2;
     for (uint32_t k = 0; k < 64; k++) { /* four tenants; most rows stay within one */
-        owners_in[k] = owners_out[k] = (uint8_t)(k / 16);
+        leases[k] = (uint8_t)(k / 16);
         rows[k] = draw() % 8 == 0 ? draw() % 80 : k / 16 * 16 + draw() % 16;
     }
     memcpy(status, side + 48, sizeof status);

@@ -24,10 +24,9 @@ lampcoil_verdict hand_madi_write(uint32_t channels, const uint32_t *words, size_
                                  uint8_t *line, size_t line_len);
 lampcoil_madi_read_answer hand_madi_read(uint32_t channels, uint32_t level, uint32_t bits, const uint8_t *line, size_t line_len,
                                          uint32_t *words, size_t words_len);
-lampcoil_verdict hand_madi_patch(uint32_t channels, uint32_t active, const uint8_t *owners_in, size_t owners_in_len,
-                                 const uint8_t *owners_out, size_t owners_out_len, const uint32_t *rows, size_t rows_len,
-                                 const uint32_t *frame_in, size_t frame_in_len, uint32_t *frame_out, size_t frame_out_len,
-                                 uint8_t *verdicts, size_t verdicts_len);
+lampcoil_verdict hand_madi_patch(uint32_t channels, uint32_t active, const uint8_t *leases, size_t leases_len,
+                                 const uint32_t *rows, size_t rows_len, const uint32_t *frame_in, size_t frame_in_len,
+                                 uint32_t *frame_out, size_t frame_out_len, uint8_t *verdicts, size_t verdicts_len);
 lampcoil_verdict hand_hd_write(uint32_t group, uint32_t dbn, uint32_t phase, uint32_t ck12, uint32_t z1, uint32_t z2,
                                const uint32_t *bodies, size_t bodies_len, uint16_t *words, size_t words_len);
 lampcoil_hd_read_answer hand_hd_read(const uint16_t *words, size_t words_len, uint32_t *bodies, size_t bodies_len);

@@ -256,30 +256,72 @@ static int carry(const tenant *t, uint32_t dbn, memory *m)
     return talk_back(t, m) || over_madi(t, 0, m) || over_hd(t, dbn, m);
 }
 
-/* Both tenants on one frame, slots 0 and 1 the first's, 2 and 3 the second's. Each turns its two around, but the second
-   asks for a slot of the first in its last one, and gets silence. The frame goes out on MADI as it is. */
-static int patch(const tenant *one, const tenant *two, memory *m)
+/* Slots of a tenant, or none where the call was refused. */
+static uint64_t leased(const char *step, lampcoil_lease l)
 {
-    static const uint8_t owners[CHANNELS] = {1, 1, 2, 2};
-    static const uint32_t rows[CHANNELS] = {1, 0, 3, 0};
-    uint32_t in[CHANNELS] = {0}, out[CHANNELS];
+    return REFUSED(step, l) ? 0 : l.slots;
+}
+
+/* A company goes home, and the house closes the gap that it leaves: the rows follow the moves. */
+static int go_home(uint8_t *table, uint32_t tenant, uint32_t *rows)
+{
+    uint8_t moves[LAMPCOIL_LEASE_MOVES];
+    uint32_t moved[CHANNELS];
+    if (leased("lease return", lampcoil_lease_return(table, LAMPCOIL_LEASE_SLOTS, tenant)) != 0)
+        return differ("lease return");
+    lampcoil_lease_closed c = lampcoil_lease_close(table, LAMPCOIL_LEASE_SLOTS, moves, sizeof moves);
+    if (REFUSED("lease close", c))
+        return 1;
+    for (uint32_t k = 0; k < CHANNELS; k++)
+        moved[k] = CHANNELS;
+    for (uint32_t k = 0; k < c.leased; k++) {
+        uint32_t from = moves[2 * k], to = moves[2 * k + 1];
+        for (uint32_t j = 0; j < c.leased; j++)
+            if (rows[from] == moves[2 * j])
+                moved[to] = moves[2 * j + 1];
+        printf("  slot %u is slot %u now, and takes from %u\n", from, to, moved[to]);
+    }
+    memcpy(rows, moved, sizeof moved);
+    return 0;
+}
+
+/* One frame by the lease table, and out on MADI as it is. */
+static int patch(const uint8_t *table, uint32_t active, const uint32_t *rows, const uint32_t *in, memory *m)
+{
+    uint32_t out[CHANNELS];
     uint8_t verdicts[CHANNELS];
-    for (uint32_t k = 0; k < 4; k++)
-        if (body_of(k < 2 ? one : two, k % 2, 0, &in[k]))
-            return 1;
-    lampcoil_verdict v = lampcoil_madi_patch(CHANNELS, 4, owners, CHANNELS, owners, CHANNELS, rows, CHANNELS, in, CHANNELS, out,
-                                             CHANNELS, verdicts, CHANNELS);
+    lampcoil_verdict v = lampcoil_madi_patch(CHANNELS, active, table, LAMPCOIL_LEASE_SLOTS, rows, CHANNELS, in, CHANNELS, out, CHANNELS,
+                                             verdicts, CHANNELS);
     if (REFUSED("patch", v))
         return 1;
-    printf("patch: verdicts %u %u %u %u\n", verdicts[0], verdicts[1], verdicts[2], verdicts[3]);
-    if (verdicts[2] != LAMPCOIL_PATCH_CARRIED || verdicts[3] != LAMPCOIL_PATCH_FOREIGN || out[2] != in[3] || out[3] != 0)
-        return differ("patch");
-    v = lampcoil_madi_write(CHANNELS, out, 4, SYNCS, 0, m->madi, sizeof m->madi);
+    for (uint32_t k = 0; k < active; k++)
+        printf("  slot %u of tenant %u from slot %u: verdict %u\n", k, table[k], rows[k], verdicts[k]);
+    v = lampcoil_madi_write(CHANNELS, out, active, SYNCS, 0, m->madi, sizeof m->madi);
     if (REFUSED("madi write", v))
         return 1;
     lampcoil_madi_read_answer r = lampcoil_madi_read(CHANNELS, 0, LAMPCOIL_MADI_BITS(CHANNELS, SYNCS), m->madi,
                                                      sizeof m->madi, m->words, CHANNELS);
     return REFUSED("madi read", r) || memcmp(m->words, out, sizeof out) != 0 ? differ("patched frame") : 0;
+}
+
+/* Both tenants lease two slots each. Each turns its two around, but the second asks for a slot of the first in its last
+   one, and gets silence. Then the first goes home, and the second is patched where it stands now. */
+static int lease(const tenant *one, const tenant *two, memory *m)
+{
+    uint8_t table[LAMPCOIL_LEASE_SLOTS] = {0};
+    uint32_t rows[CHANNELS] = {1, 0, 3, 0}, in[CHANNELS] = {0};
+    printf("leases\n");
+    if (leased("lease ask", lampcoil_lease_ask(table, LAMPCOIL_LEASE_SLOTS, 1, 2)) != 0x3 ||
+        leased("lease ask", lampcoil_lease_ask(table, LAMPCOIL_LEASE_SLOTS, 2, 2)) != 0xC)
+        return differ("lease ask");
+    for (uint32_t k = 0; k < 4; k++)
+        if (body_of(k < 2 ? one : two, k % 2, 0, &in[k]))
+            return 1;
+    if (patch(table, 4, rows, in, m) || m->words[2] != in[3] || m->words[3] != 0 || go_home(table, 1, rows))
+        return differ("patch of two");
+    in[0] = in[2];
+    in[1] = in[3];
+    return patch(table, 2, rows, in, m) || m->words[0] != in[1] ? differ("patch of one") : 0;
 }
 
 /* A block that the way has damaged: it is refused, and the buffers are as before it came. */
@@ -331,7 +373,7 @@ int main(void)
     lampcoil_dbn next = lampcoil_hd_next_dbn(255);
     if (REFUSED("next data block", next) || carry(&two, next.dbn, &scratch))
         return 1;
-    if (patch(&one, &two, &shared))
+    if (lease(&one, &two, &shared))
         return 1;
     return search(&after_one, &silence, &scratch);
 }

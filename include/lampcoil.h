@@ -30,9 +30,9 @@ extern "C" {
 #endif
 
 /* The version of this header and of the library beside it. A larger MAJOR may take something away; MINOR adds. */
-#define LAMPCOIL_VERSION "3.3.0"
-#define LAMPCOIL_VERSION_MAJOR 3
-#define LAMPCOIL_VERSION_MINOR 3
+#define LAMPCOIL_VERSION "4.0.0"
+#define LAMPCOIL_VERSION_MAJOR 4
+#define LAMPCOIL_VERSION_MINOR 0
 #define LAMPCOIL_VERSION_PATCH 0
 
 /* Numbers that come back, and what their place is; lampcoil_refusal_text tells when each is given. */
@@ -57,6 +57,7 @@ extern "C" {
 #define LAMPCOIL_REFUSED_WORD_LENGTH 18u /* place: sample index */
 #define LAMPCOIL_REFUSED_UNDECLARED 19u  /* place: channel */
 #define LAMPCOIL_REFUSED_FAULT_MAP 20u   /* place: subframe */
+#define LAMPCOIL_REFUSED_SLOTS 21u
 #define LAMPCOIL_REFUSED_FULL 22u
 
 /* When a number is given, in words; never null. */
@@ -84,7 +85,7 @@ static inline const char *lampcoil_refusal_text(uint32_t number)
         "writer: a sample has a 1 below the word length that its channel's status declares",
         "talkback: status byte 2 bits 2, 1, 0 are not 0, 1, 0",
         "writer: an E of the side table is set",
-        "not a number of this library",
+        "fewer slots are free than were asked for",
         "a channel of a level sheet would pass 2^32 samples",
     };
     return number < sizeof texts / sizeof texts[0] ? texts[number] : "not a number of this library";
@@ -103,6 +104,8 @@ static inline const char *lampcoil_refusal_text(uint32_t number)
 #define LAMPCOIL_MADI_MOST_BITS 5110u
 #define LAMPCOIL_MADI_BITS(channels, syncs) (40u * (channels) + 10u * (syncs))
 #define LAMPCOIL_MADI_OCTETS(channels, syncs) ((LAMPCOIL_MADI_BITS(channels, syncs) + 7u) / 8u)
+#define LAMPCOIL_LEASE_SLOTS 64u
+#define LAMPCOIL_LEASE_MOVES 128u
 #define LAMPCOIL_PACKET_WORDS 31u
 #define LAMPCOIL_PACKET_BODIES 4u
 #define LAMPCOIL_SHEET_NUMBERS 20u
@@ -328,21 +331,41 @@ lampcoil_madi_read_answer lampcoil_madi_read(uint32_t channels, uint32_t level, 
                                              const uint8_t *line, size_t line_len,
                                              uint32_t *words, size_t words_len);
 
-/* Patches a frame between tenants. Slot k of the frame in belongs to tenant owners_in[k], output slot k to tenant
-   owners_out[k]; 0 is the house, a tenant like the others. rows[k] names the input slot that goes to output slot k; a
-   number at or above `active` names none. An output slot is carried only if both slots are active, below `active`,
-   and of one tenant, and the input word's slots 4 to 31 hold an even number of ones: it then has the input word, bits 0
-   and 1 cleared. Every other output slot is 0. verdicts[k] says which of these it was, the first that applies of NONE,
-   FOREIGN and PARITY. Output words and verdicts of a tenant depend, beside the owners and `active`, only on that
-   tenant's own rows and input slots. lampcoil_madi_write takes the first `active` words.
-   Order: RANGE (channels 56 or 64, active 1 to channels), LENGTH (each of the six as many elements as channels). */
+/* ---- Slot leases: a table of 64 octets, slot k in octet k: its tenant, 1 to 255, or 0 where it is free. 64 zeros are
+   the empty table; whatever is called, a table stays one. ---- */
+
+/* A tenant asks for n slots, 1 to 64, and gets the n lowest free ones, beside those that it holds. Bit k of `slots` is 1
+   where slot k is the tenant's after the call; it is 0 on a refusal.
+   Order: RANGE (tenant 1 to 255, n), LENGTH (unless 64 octets), SLOTS (fewer than n are free). */
+typedef struct { uint32_t number, place; uint64_t slots; } lampcoil_lease;
+lampcoil_lease lampcoil_lease_ask(uint8_t *table, size_t table_len, uint32_t tenant, uint32_t n);
+
+/* A tenant gives back all of its own slots; `slots` is then 0. With none it is accepted too, and changes nothing.
+   Order: RANGE (tenant), LENGTH (unless 64 octets). */
+lampcoil_lease lampcoil_lease_return(uint8_t *table, size_t table_len, uint32_t tenant);
+
+/* The house closes the gaps: the leased slots move down in their order and are then slots 0 to leased-1. `moves` gets for
+   each of them, in that order, its old and its new position, two octets, also where they agree, and zeros after them.
+   LENGTH unless 64 octets and 128 octets of moves. */
+typedef struct { uint32_t number, place, leased; } lampcoil_lease_closed;
+lampcoil_lease_closed lampcoil_lease_close(uint8_t *table, size_t table_len, uint8_t *moves, size_t moves_len);
+
+/* Patches a frame between tenants. The lease table says whose slot k is, of the frame in and of the frame out; a free
+   slot is the house's, which is a tenant like the others. Of its 64 octets the first `channels` are looked at. rows[k]
+   names the input slot that goes to output slot k; a number at or above `active` names none. An output slot is carried
+   only if both slots are active, below `active`, and of one tenant, and the input word's slots 4 to 31 hold an even
+   number of ones: it then has the input word, bits 0 and 1 cleared. Every other output slot is 0. verdicts[k] says which
+   of these it was, the first that applies of NONE, FOREIGN and PARITY. Output words and verdicts of a tenant depend,
+   beside the lease table and `active`, only on that tenant's own rows and input slots. lampcoil_madi_write takes the
+   first `active` words.
+   Order: RANGE (channels 56 or 64, active 1 to channels), LENGTH (64 octets of leases; each of the other four as many
+   elements as channels). */
 #define LAMPCOIL_PATCH_CARRIED 0u
 #define LAMPCOIL_PATCH_NONE 1u
 #define LAMPCOIL_PATCH_FOREIGN 2u
 #define LAMPCOIL_PATCH_PARITY 3u
 lampcoil_verdict lampcoil_madi_patch(uint32_t channels, uint32_t active,
-                                     const uint8_t *owners_in, size_t owners_in_len,
-                                     const uint8_t *owners_out, size_t owners_out_len,
+                                     const uint8_t *leases, size_t leases_len,
                                      const uint32_t *rows, size_t rows_len,
                                      const uint32_t *frame_in, size_t frame_in_len,
                                      uint32_t *frame_out, size_t frame_out_len,

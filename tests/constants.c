@@ -175,24 +175,37 @@ static void test_madi(void)
     GIVES(lampcoil_madi_read(most, 0, bits, line, octets, words, most), LAMPCOIL_REFUSED_GROUP);
 }
 
+/* A table and its moves, at their lengths and beside them; one slot more than there are. */
+static void test_leases(void)
+{
+    uint8_t table[LAMPCOIL_LEASE_SLOTS + 1] = {0}, moves[LAMPCOIL_LEASE_MOVES + 1];
+    GIVES(lampcoil_lease_ask(table, LAMPCOIL_LEASE_SLOTS, 1, 60), LAMPCOIL_ACCEPTED);
+    GIVES(lampcoil_lease_ask(table, LAMPCOIL_LEASE_SLOTS, 1, 5), LAMPCOIL_REFUSED_SLOTS);
+    GIVES(lampcoil_lease_ask(table, LAMPCOIL_LEASE_SLOTS - 1, 1, 1), LAMPCOIL_REFUSED_LENGTH);
+    GIVES(lampcoil_lease_return(table, LAMPCOIL_LEASE_SLOTS + 1, 1), LAMPCOIL_REFUSED_LENGTH);
+    GIVES(lampcoil_lease_close(table, LAMPCOIL_LEASE_SLOTS, moves, LAMPCOIL_LEASE_MOVES), LAMPCOIL_ACCEPTED);
+    GIVES(lampcoil_lease_close(table, LAMPCOIL_LEASE_SLOTS, moves, LAMPCOIL_LEASE_MOVES - 1), LAMPCOIL_REFUSED_LENGTH);
+    GIVES(lampcoil_lease_close(table, LAMPCOIL_LEASE_SLOTS, moves, LAMPCOIL_LEASE_MOVES + 1), LAMPCOIL_REFUSED_LENGTH);
+}
+
 /* A verdict of each kind: slot 0 to itself, to no slot, to another tenant's slot, and to itself with odd parity. */
 static void test_verdicts(void)
 {
-    uint8_t owners[LAMPCOIL_MADI_MOST_CHANNELS] = {1, 2}, verdicts[LAMPCOIL_MADI_MOST_CHANNELS];
+    uint8_t leases[LAMPCOIL_LEASE_SLOTS] = {1, 2}, verdicts[LAMPCOIL_MADI_MOST_CHANNELS];
     uint32_t rows[LAMPCOIL_MADI_MOST_CHANNELS] = {0}, out[LAMPCOIL_MADI_MOST_CHANNELS];
     const size_t n = LAMPCOIL_MADI_MOST_CHANNELS;
     memset(words, 0, sizeof words);
-    GIVES(lampcoil_madi_patch(64, 64, owners, n, owners, n, rows, n, words, n, out, n, verdicts, n), LAMPCOIL_ACCEPTED);
+    GIVES(lampcoil_madi_patch(64, 64, leases, LAMPCOIL_LEASE_SLOTS, rows, n, words, n, out, n, verdicts, n), LAMPCOIL_ACCEPTED);
     EXPECT(verdicts[0] == LAMPCOIL_PATCH_CARRIED);
     rows[0] = 64;
-    lampcoil_madi_patch(64, 64, owners, n, owners, n, rows, n, words, n, out, n, verdicts, n);
+    lampcoil_madi_patch(64, 64, leases, LAMPCOIL_LEASE_SLOTS, rows, n, words, n, out, n, verdicts, n);
     EXPECT(verdicts[0] == LAMPCOIL_PATCH_NONE);
     rows[0] = 1;
-    lampcoil_madi_patch(64, 64, owners, n, owners, n, rows, n, words, n, out, n, verdicts, n);
+    lampcoil_madi_patch(64, 64, leases, LAMPCOIL_LEASE_SLOTS, rows, n, words, n, out, n, verdicts, n);
     EXPECT(verdicts[0] == LAMPCOIL_PATCH_FOREIGN);
     rows[0] = 0;
     words[0] = 0x10;
-    lampcoil_madi_patch(64, 64, owners, n, owners, n, rows, n, words, n, out, n, verdicts, n);
+    lampcoil_madi_patch(64, 64, leases, LAMPCOIL_LEASE_SLOTS, rows, n, words, n, out, n, verdicts, n);
     EXPECT(verdicts[0] == LAMPCOIL_PATCH_PARITY);
 }
 
@@ -292,8 +305,8 @@ static void test_status(void)
 /* Each number has a text of its own, and no other number has one. */
 static void test_texts(void)
 {
-    const char *none = lampcoil_refusal_text(LAMPCOIL_REFUSED_FAULT_MAP + 1);
-    for (uint32_t k = LAMPCOIL_ACCEPTED; k <= LAMPCOIL_REFUSED_FAULT_MAP; k++) {
+    const char *none = lampcoil_refusal_text(LAMPCOIL_REFUSED_FULL + 1);
+    for (uint32_t k = LAMPCOIL_ACCEPTED; k <= LAMPCOIL_REFUSED_FULL; k++) {
         EXPECT(strcmp(lampcoil_refusal_text(k), none) != 0);
         for (uint32_t j = LAMPCOIL_ACCEPTED; j < k; j++)
             EXPECT(strcmp(lampcoil_refusal_text(k), lampcoil_refusal_text(j)) != 0);
@@ -342,6 +355,7 @@ int main(void)
     test_talkback();
     test_madi();
     test_verdicts();
+    test_leases();
     test_packet();
     test_status();
     test_sheet();

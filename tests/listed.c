@@ -318,32 +318,64 @@ static void test_madi_counts(void)
 /* The patch: each verdict, the first that applies; what is carried of a word; refusals in their order. */
 static void test_patch(void)
 {
-    uint8_t ins[64] = {1, 2, 1}, outs[64] = {1, 1, 2, 2, 1, 1}, verdicts[64];
-    uint32_t rows[64] = {2, 1, 1, 2, 3, 4}, in[64] = {0x30, 0x10, 0x3F, 0x3F, 0x3F}, out[64];
-    for (int k = 6; k < 64; k++)
+    uint8_t leases[64] = {1, 1, 1, 2, 1}, verdicts[64];
+    uint32_t rows[64] = {2, 1, 3, 3, 1}, in[64] = {0x30, 0x10, 0x3F, 0x10, 0x3F}, out[64];
+    for (int k = 5; k < 64; k++)
         rows[k] = k % 2 == 0 ? 0xFFFFFFFFu : 4;
-    ins[3] = ins[4] = 1;
-    lampcoil_verdict v = lampcoil_madi_patch(64, 4, ins, 64, outs, 64, rows, 64, in, 64, out, 64, verdicts, 64);
+    lampcoil_verdict v = lampcoil_madi_patch(64, 4, leases, 64, rows, 64, in, 64, out, 64, verdicts, 64);
     expect(v.number == 0 && verdicts[0] == 0 && out[0] == 0x3C, "carried, bits 0 and 1 cleared, bits 2 and 3 kept");
-    expect(verdicts[1] == 2 && out[1] == 0, "another tenant's slot of odd parity is foreign");
-    expect(verdicts[2] == 3 && out[2] == 0, "the tenant's own slot of odd parity");
-    expect(verdicts[3] == 2 && out[3] == 0, "another tenant's slot");
+    expect(verdicts[1] == 3 && out[1] == 0, "the tenant's own slot of odd parity");
+    expect(verdicts[2] == 2 && out[2] == 0, "another tenant's slot of odd parity is foreign");
+    expect(verdicts[3] == 3 && out[3] == 0, "the other tenant's own slot of odd parity");
     expect(verdicts[4] == 1 && out[4] == 0, "an output slot at the active count");
     rows[0] = 4;
-    lampcoil_madi_patch(64, 4, ins, 64, outs, 64, rows, 64, in, 64, out, 64, verdicts, 64);
+    lampcoil_madi_patch(64, 4, leases, 64, rows, 64, in, 64, out, 64, verdicts, 64);
     expect(verdicts[0] == 1 && out[0] == 0, "a row that names a slot at the active count");
     rows[0] = 0xFFFFFFFFu;
-    lampcoil_madi_patch(64, 4, ins, 64, outs, 64, rows, 64, in, 64, out, 64, verdicts, 64);
+    lampcoil_madi_patch(64, 4, leases, 64, rows, 64, in, 64, out, 64, verdicts, 64);
     expect(verdicts[0] == 1 && verdicts[63] == 1 && out[63] == 0, "a row that names no slot");
-    rows[0] = 3;
-    ins[3] = outs[0] = 0;
-    lampcoil_madi_patch(64, 4, ins, 64, outs, 64, rows, 64, in, 64, out, 64, verdicts, 64);
-    expect(verdicts[0] == 0 && out[0] == 0x3C, "the house is one tenant");
-    expect(lampcoil_madi_patch(60, 4, ins, 0, outs, 64, rows, 64, in, 64, out, 64, verdicts, 64).number == 2, "2 goes before 1");
-    expect(lampcoil_madi_patch(64, 0, ins, 64, outs, 64, rows, 64, in, 64, out, 64, verdicts, 64).number == 2, "no active slot");
-    expect(lampcoil_madi_patch(56, 57, ins, 56, outs, 56, rows, 56, in, 56, out, 56, verdicts, 56).number == 2, "57 of 56");
-    expect(lampcoil_madi_patch(56, 56, ins, 64, outs, 56, rows, 56, in, 56, out, 56, verdicts, 56).number == 1, "64 owners of 56");
-    expect(lampcoil_madi_patch(64, 64, ins, 64, outs, 64, rows, 64, in, 64, out, 64, verdicts, 63).number == 1, "63 verdicts");
+    rows[0] = 2;
+    leases[0] = leases[2] = 0;
+    lampcoil_madi_patch(64, 4, leases, 64, rows, 64, in, 64, out, 64, verdicts, 64);
+    expect(verdicts[0] == 0 && out[0] == 0x3C, "free slots are the house's, and the house is one tenant");
+    expect(lampcoil_madi_patch(60, 4, leases, 0, rows, 64, in, 64, out, 64, verdicts, 64).number == 2, "2 goes before 1");
+    expect(lampcoil_madi_patch(64, 0, leases, 64, rows, 64, in, 64, out, 64, verdicts, 64).number == 2, "no active slot");
+    expect(lampcoil_madi_patch(56, 57, leases, 64, rows, 56, in, 56, out, 56, verdicts, 56).number == 2, "57 of 56");
+    expect(lampcoil_madi_patch(56, 56, leases, 64, rows, 56, in, 56, out, 56, verdicts, 56).number == 0, "64 leases, cut to 56");
+    expect(lampcoil_madi_patch(56, 56, leases, 56, rows, 56, in, 56, out, 56, verdicts, 56).number == 1, "56 leases");
+    expect(lampcoil_madi_patch(64, 64, leases, 64, rows, 64, in, 64, out, 64, verdicts, 63).number == 1, "63 verdicts");
+}
+
+/* Leases: the lowest free slots, a return that opens a gap, the gap closed with its moves; refusals in their order. */
+static void test_leases(void)
+{
+    static const uint8_t gap[6] = {9, 0, 0, 7, 7, 0}, closed[6] = {9, 7, 7, 0, 0, 0}, moved[8] = {0, 0, 3, 1, 4, 2, 0, 0};
+    uint8_t table[64] = {0}, moves[128], full[64];
+    lampcoil_lease l = lampcoil_lease_ask(table, 64, 5, 3);
+    expect(l.number == 0 && l.slots == 0x7, "the three lowest");
+    l = lampcoil_lease_ask(table, 64, 7, 2);
+    expect(l.number == 0 && l.slots == 0x18, "the two above them");
+    l = lampcoil_lease_return(table, 64, 5);
+    expect(l.number == 0 && l.slots == 0, "given back");
+    l = lampcoil_lease_ask(table, 64, 9, 1);
+    expect(l.number == 0 && l.slots == 0x1 && memcmp(table, gap, 6) == 0, "the lowest of the gap");
+    l = lampcoil_lease_return(table, 64, 5);
+    expect(l.number == 0 && l.slots == 0 && memcmp(table, gap, 6) == 0, "giving back with no slots");
+    memset(moves, 0xA5, sizeof moves);
+    lampcoil_lease_closed c = lampcoil_lease_close(table, 64, moves, 128);
+    expect(c.number == 0 && c.leased == 3 && memcmp(table, closed, 6) == 0, "the gap closed, in order");
+    expect(memcmp(moves, moved, 8) == 0 && moves[127] == 0, "the moves, and zeros after them");
+    l = lampcoil_lease_ask(table, 64, 9, 62);
+    expect(l.number == 21 && l.place == 0 && l.slots == 0 && memcmp(table, closed, 6) == 0, "61 are free");
+    l = lampcoil_lease_ask(table, 64, 9, 61);
+    expect(l.number == 0 && l.slots == 0xFFFFFFFFFFFFFFF9u, "61 of 61, beside the one that it holds");
+    memcpy(full, table, 64);
+    expect(lampcoil_lease_ask(table, 64, 7, 1).number == 21 && memcmp(table, full, 64) == 0, "none is free");
+    expect(lampcoil_lease_ask(table, 63, 0, 1).number == 2 && lampcoil_lease_ask(table, 64, 256, 1).number == 2, "tenants 0 and 256");
+    expect(lampcoil_lease_ask(table, 64, 1, 0).number == 2 && lampcoil_lease_ask(table, 64, 1, 65).number == 2, "0 and 65 slots");
+    expect(lampcoil_lease_ask(table, 63, 1, 1).number == 1 && lampcoil_lease_return(table, 65, 1).number == 1, "63 and 65 octets");
+    expect(lampcoil_lease_return(table, 63, 0).number == 2, "2 goes before 1");
+    expect(lampcoil_lease_close(table, 64, moves, 127).number == 1 && lampcoil_lease_close(table, 63, moves, 128).number == 1, "moves");
 }
 
 /* The number of symbols that the search compares. */
@@ -483,6 +515,7 @@ int main(void)
     test_madi();
     test_madi_counts();
     test_patch();
+    test_leases();
     test_compared();
     test_aligned();
     test_talkback();

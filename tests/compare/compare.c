@@ -8,7 +8,7 @@
 #include <sys/mman.h>
 #include <unistd.h>
 
-enum { SLOTS = 6, ROOM = 65536, ZONE = 64, ENTRIES = 32, NUMBERS = 24, SHOWN = 20 };
+enum { SLOTS = 5, ROOM = 65536, ZONE = 64, ENTRIES = 48, NUMBERS = 24, SHOWN = 20 };
 
 typedef struct {
     uint8_t *rooms[2];       /* the library's and the second program's */
@@ -234,6 +234,7 @@ int main(int argc, char **argv)
     compare_talkback(cases);
     compare_patch(cases);
     compare_levels(cases);
+    compare_leases(cases);
     unsigned long all = print_tallies();
     failures = failures + edges_missing();
     printf("library and second program: %lu cases, %d differences\n", all, failures);

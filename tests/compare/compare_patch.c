@@ -6,7 +6,7 @@ enum { MOST = 64, ROOM = 80 };
 
 typedef struct {
     uint32_t channels, active, tenants;
-    uint8_t owners_in[ROOM], owners_out[ROOM];
+    uint8_t leases[ROOM];
     uint32_t rows[ROOM], frame[ROOM];
 } panel;
 
@@ -33,13 +33,11 @@ static void draw_panel(panel *p)
     p->channels = once_in(2) ? 56 : 64;
     p->active = once_in(2) ? p->channels : 1 + below(p->channels);
     p->tenants = counts[below(5)];
-    for (int k = 0; k < ROOM; k++) {
-        p->owners_in[k] = (uint8_t)below(p->tenants);
-        p->owners_out[k] = (uint8_t)below(p->tenants);
-    }
+    for (int k = 0; k < ROOM; k++)
+        p->leases[k] = (uint8_t)below(p->tenants);
     for (int k = 0; k < ROOM; k++) {
         p->rows[k] = any_row(p->active);
-        for (int more = 0; more < 6 && p->rows[k] < ROOM && p->owners_in[p->rows[k]] != p->owners_out[k]; more++)
+        for (int more = 0; more < 6 && p->rows[k] < ROOM && p->leases[p->rows[k]] != p->leases[k]; more++)
             p->rows[k] = any_row(p->active);
         p->frame[k] = any_word();
     }
@@ -48,25 +46,24 @@ static void draw_panel(panel *p)
 static void madi_patch(void)
 {
     panel p;
-    size_t n[6];
+    size_t n[5];
     draw_panel(&p);
     uint32_t right = p.channels;
     if (once_in(24))
         p.active = any_number(64);
     if (once_in(24))
         p.channels = once_in(2) ? 55 + below(11) : draw();
-    for (int k = 0; k < 6; k++)
-        n[k] = any_length(right);
+    for (int k = 0; k < 5; k++)
+        n[k] = any_length(k == 0 ? 64 : right);
     begin("madi_patch");
-    lent ins = lend_in("owners_in", p.owners_in, n[0], 1), outs = lend_in("owners_out", p.owners_out, n[1], 1);
-    lent rows = lend_in("rows", p.rows, n[2], 4), in = lend_in("frame_in", p.frame, n[3], 4);
-    lent out = lend_out("frame_out", n[4], 4), verdicts = lend_out("verdicts", n[5], 1);
-    lampcoil_verdict a = lampcoil_madi_patch(p.channels, p.active, ins.library, ins.elements, outs.library, outs.elements, rows.library,
-                                             rows.elements, in.library, in.elements, out.library, out.elements, verdicts.library,
+    lent leases = lend_in("leases", p.leases, n[0], 1), rows = lend_in("rows", p.rows, n[1], 4);
+    lent in = lend_in("frame_in", p.frame, n[2], 4), out = lend_out("frame_out", n[3], 4);
+    lent verdicts = lend_out("verdicts", n[4], 1);
+    lampcoil_verdict a = lampcoil_madi_patch(p.channels, p.active, leases.library, leases.elements, rows.library, rows.elements,
+                                             in.library, in.elements, out.library, out.elements, verdicts.library,
                                              verdicts.elements);
-    second_verdict b = second_madi_patch(p.channels, p.active, ins.second, ins.elements, outs.second, outs.elements, rows.second,
-                                         rows.elements, in.second, in.elements, out.second, out.elements, verdicts.second,
-                                         verdicts.elements);
+    second_verdict b = second_madi_patch(p.channels, p.active, leases.second, leases.elements, rows.second, rows.elements, in.second,
+                                         in.elements, out.second, out.elements, verdicts.second, verdicts.elements);
     END(a, b);
 }
 
@@ -79,12 +76,12 @@ static view seen_by(const panel *p, uint32_t tenant)
     uint8_t verdicts[MOST];
     view v;
     memset(&v, 0, sizeof v);
-    lampcoil_verdict a = lampcoil_madi_patch(p->channels, p->active, p->owners_in, p->channels, p->owners_out, p->channels, p->rows,
-                                             p->channels, p->frame, p->channels, out, p->channels, verdicts, p->channels);
+    lampcoil_verdict a = lampcoil_madi_patch(p->channels, p->active, p->leases, MOST, p->rows, p->channels, p->frame, p->channels,
+                                             out, p->channels, verdicts, p->channels);
     v.number = a.number;
     v.place = a.place;
     for (uint32_t k = 0; k < p->channels && a.number == 0; k++)
-        if (p->owners_out[k] == tenant) {
+        if (p->leases[k] == tenant) {
             v.words[k] = out[k];
             v.verdicts[k] = verdicts[k];
         }
@@ -100,10 +97,10 @@ static void separation(void)
     view a = seen_by(&p, tenant);
     for (int k = 0; k < ROOM; k++) {
         uint32_t row = any_row(p.active), word = any_word();
-        if (p.owners_out[k] != tenant)
+        if (p.leases[k] != tenant) {
             p.rows[k] = row;
-        if (p.owners_in[k] != tenant)
             p.frame[k] = word;
+        }
     }
     view b = seen_by(&p, tenant);
     begin("separation");

@@ -8,7 +8,7 @@
 #include <sys/mman.h>
 #include <unistd.h>
 
-enum { MEMORY = 65536, MOST_SLICES = 6, TIMES = 8 };
+enum { MEMORY = 65536, MOST_SLICES = 5, TIMES = 8 };
 
 /* Every slice argument of the header; tests/compared holds what is printed below to the header itself. */
 static const struct { const char *entry, *argument; } slices[] = {
@@ -23,10 +23,11 @@ static const struct { const char *entry, *argument; } slices[] = {
     {"talkback_join", "program"},      {"talkback_join", "voice"},       {"talkback_join", "side"},
     {"talkback_join", "samples"},      {"talkback_separate", "samples"}, {"talkback_separate", "side"},
     {"talkback_separate", "program"},  {"talkback_separate", "voice"},
-    {"madi_patch", "owners_in"}, {"madi_patch", "owners_out"}, {"madi_patch", "rows"}, {"madi_patch", "frame_in"},
-    {"madi_patch", "frame_out"}, {"madi_patch", "verdicts"},
     {"level_start", "sheet"},   {"level_add", "sheet"},     {"level_add", "samples"},  {"level_add", "side"},
     {"level_join", "sheet"},    {"level_join", "later"},
+    {"madi_patch", "leases"},   {"madi_patch", "rows"},     {"madi_patch", "frame_in"}, {"madi_patch", "frame_out"},
+    {"madi_patch", "verdicts"}, {"lease_ask", "table"},     {"lease_return", "table"}, {"lease_close", "table"},
+    {"lease_close", "moves"},
 };
 enum { SLICES = sizeof slices / sizeof slices[0] };
 

@@ -37,6 +37,8 @@ typedef struct {
 typedef struct { uint32_t number, place, crcc_a, crcc_b; } second_aes3_read_answer;
 typedef struct { uint32_t number, place, position, compared; } second_aes3_start;
 typedef struct { uint32_t number, place, active, syncs; } second_madi_read_answer;
+typedef struct { uint32_t number, place; uint64_t slots; } second_lease;
+typedef struct { uint32_t number, place, leased; } second_lease_closed;
 typedef struct { uint32_t number, place, group, dbn, phase, ck12, z1, z2; } second_hd_read_answer;
 typedef struct { uint32_t number, place, lanes; } second_hd_repair_answer;
 typedef struct { uint32_t number, place, lane; } second_lane;
@@ -69,10 +71,13 @@ second_verdict second_madi_write(uint32_t channels, const uint32_t *words, size_
                                  uint8_t *line, size_t line_len);
 second_madi_read_answer second_madi_read(uint32_t channels, uint32_t level, uint32_t bits, const uint8_t *line, size_t line_len,
                                          uint32_t *words, size_t words_len);
-second_verdict second_madi_patch(uint32_t channels, uint32_t active, const uint8_t *owners_in, size_t owners_in_len,
-                                 const uint8_t *owners_out, size_t owners_out_len, const uint32_t *rows, size_t rows_len,
-                                 const uint32_t *frame_in, size_t frame_in_len, uint32_t *frame_out, size_t frame_out_len,
-                                 uint8_t *verdicts, size_t verdicts_len);
+second_verdict second_madi_patch(uint32_t channels, uint32_t active, const uint8_t *leases, size_t leases_len,
+                                 const uint32_t *rows, size_t rows_len, const uint32_t *frame_in, size_t frame_in_len,
+                                 uint32_t *frame_out, size_t frame_out_len, uint8_t *verdicts, size_t verdicts_len);
+
+second_lease second_lease_ask(uint8_t *table, size_t table_len, uint32_t tenant, uint32_t n);
+second_lease second_lease_return(uint8_t *table, size_t table_len, uint32_t tenant);
+second_lease_closed second_lease_close(uint8_t *table, size_t table_len, uint8_t *moves, size_t moves_len);
 
 second_verdict second_hd_write(uint32_t group, uint32_t dbn, uint32_t phase, uint32_t ck12, uint32_t z1, uint32_t z2,
                                const uint32_t *bodies, size_t bodies_len, uint16_t *words, size_t words_len);

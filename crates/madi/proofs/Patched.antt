@@ -20,6 +20,8 @@ use Rattle.madi_read.specs.Reader.{frameRead}
 use Rattle.madi_read.specs.Inner.{sofar}
 use Rattle.madi_patch.specs.Slot.{Panel, verdictOctet}
 use Rattle.madi_patch.specs.Patch.{Patched, patchAnswer, frameAfter}
+use Rattle.madi_patch.specs.Leased.{leasedPanel, leasedAnswer, leasedFrame}
+use Rattle.madi_patch.proofs.LeasedLaws.{by-two, frame-by-two}
 use Rattle.madi_patch.proofs.SlotLaws.{none-out, not-carried-is-silent, word-cases}
 use Rattle.madi_patch.proofs.PatchLaws.{accepted-counted, accepted-some, accepted-within, word-at, length-out, active-words-pass}
 use Rattle.madi.specs.Units.{padded}
@@ -94,3 +96,24 @@ module _ (channels : ℕ) (p : Panel) (old-frame old-verdicts : List ℕ) (made 
         read-written channels sent syncs level room (frameOctets channels sent syncs level) (below-take (2 ^ 32) (p .active) out (small below))
         writer-takes-the-patched
         ∙ ap₂ (λ (a : ℕ) (l : List ℕ). accepted (sofar channels a syncs l)) sent-long all-of-it
+
+-- ---- the same of the frame that the patch by the lease table leaves
+
+module _ (channels active : ℕ) (leases rows frame old-frame old-verdicts : List ℕ) (made : Patched)
+    (accepts : leasedAnswer channels active leases rows frame (length old-frame) (length old-verdicts) ≡ accepted made) (syncs level room : ℕ)
+    (some : 1 ≤ syncs) (most : syncs ≤ 255) (digital : level ≤ 1) (fits : needed channels syncs ≤ room) where
+  pub writer-takes-the-leased : frameWritten channels (take active (leasedFrame channels active leases rows frame old-frame old-verdicts)) syncs level room
+      ≡ accepted (frameOctets channels (take active (leasedFrame channels active leases rows frame old-frame old-verdicts)) syncs level)
+  writer-takes-the-leased =
+      rw (frame-by-two channels active leases rows frame old-frame old-verdicts made accepts)
+      (writer-takes-the-patched channels (leasedPanel channels active leases rows frame) old-frame old-verdicts made
+      (by-two channels active leases rows frame old-frame old-verdicts made accepts) syncs level room some most digital fits)
+
+  pub reader-gives-the-leased : Below (2 ^ 32) frame
+      → frameRead channels level (boundary channels syncs)
+      (frameOctets channels (take active (leasedFrame channels active leases rows frame old-frame old-verdicts)) syncs level) channels
+      ≡ accepted (sofar channels active syncs (leasedFrame channels active leases rows frame old-frame old-verdicts))
+  reader-gives-the-leased below =
+      rw (frame-by-two channels active leases rows frame old-frame old-verdicts made accepts)
+      (reader-gives-the-patched channels (leasedPanel channels active leases rows frame) old-frame old-verdicts made
+      (by-two channels active leases rows frame old-frame old-verdicts made accepts) syncs level room some most digital fits below)

@@ -8,6 +8,7 @@ ghost use Rattle.answer.specs.Answer.{verdict};
 ghost use Rattle.answer.specs.Said.{verdictSaid};
 ghost use Rattle.madi_patch.specs.Slot.{panel, verdictOctet, slotVerdict, slotOctet, slotWord};
 ghost use Rattle.madi_patch.specs.Patch.{asLong, patchAnswer, frameAfter, verdictsAfter};
+ghost use Rattle.madi_patch.specs.Leased.{leasedAnswer, leasedFrame, leasedVerdicts};
 ghost use Rattle.madi_patch.specs.Inner.{Lent, Long};
 use answer::Verdict;
 
@@ -168,6 +169,42 @@ pub fn patch(
                     number: 1,
                     place: 0,
                 };
+            }
+        }
+    }
+    Verdict::Refused {
+        number: 2,
+        place: 0,
+    }
+}
+
+// The same by the lease table of 64 slots, cut to the channel count: it owns input and output slots, and free slots are
+// the house's.
+pub fn patch_leased(
+    channels: u32,
+    active: u32,
+    leases: &[u8],
+    rows: &[u32],
+    frame: &[u32],
+    out: &mut [u32],
+    verdicts: &mut [u8],
+) -> Verdict
+    ensures { λ r. ⌜ verdictSaid r ≡ verdict (leasedAnswer channels active (now (leases .entry)) (now (rows .entry)) (now (frame .entry)) (length (now (out .entry))) (length (now (verdicts .entry)))) ⌝ }
+    ensures { λ r. ⌜ now (out .exit) ≡ leasedFrame channels active (now (leases .entry)) (now (rows .entry)) (now (frame .entry)) (now (out .entry)) (now (verdicts .entry)) ⌝ }
+    ensures { λ r. ⌜ now (verdicts .exit) ≡ leasedVerdicts channels active (now (leases .entry)) (now (rows .entry)) (now (frame .entry)) (now (out .entry)) (now (verdicts .entry)) ⌝ }
+{
+    if madi_code::is_counted(channels) {
+        if 1 <= active {
+            if active <= channels {
+                if leases.len() != 64 {
+                    return Verdict::Refused {
+                        number: 1,
+                        place: 0,
+                    };
+                }
+                let n = channels as usize;
+                let owners = &leases[..n];
+                return patch(channels, active, owners, owners, rows, frame, out, verdicts);
             }
         }
     }

@@ -1,0 +1,11 @@
+pub mod Holding
+pub mod Closing
+pub mod Moves
+pub mod Lowest
+pub mod Answering
+pub mod Counting
+pub mod Telling
+pub mod Turns
+pub mod MoveTurns
+pub mod Residue
+pub mod Said
