@@ -18,6 +18,8 @@ static uint32_t words[64], back_words[64], bodies[4], back_bodies[4];
 static uint8_t madi[LAMPCOIL_MADI_OCTETS(64, SYNCS)], back_madi[LAMPCOIL_MADI_OCTETS(64, SYNCS)];
 static uint8_t leases[64], verdicts[64];
 static uint32_t rows[64];
+static uint8_t full[LAMPCOIL_MADI_OCTETS(64, 255)], back_full[LAMPCOIL_MADI_OCTETS(64, 255)];
+static uint8_t syncs[SYNCS], commands[255], back_commands[255];
 static uint16_t packet[31], damaged[31], back_packet[31];
 static uint8_t copy_from[HUNTED], copy_to[HUNTED];
 static void *(*volatile copy)(void *, const void *, size_t) = memcpy;
@@ -61,9 +63,12 @@ BOTH(find, lampcoil_aes3_start, aes3_find, (hunted, HUNTED))
 BOTH(join, lampcoil_verdict, talkback_join, (plain, 384, voice, 128, talk_side, LAMPCOIL_SIDE_OCTETS, back_samples, 384))
 BOTH(separate, lampcoil_verdict, talkback_separate,
      (samples, 384, talk_side, LAMPCOIL_SIDE_OCTETS, back_plain, 384, back_voice, 128))
-BOTH(madi_write, lampcoil_verdict, madi_write, (64, words, 64, SYNCS, 0, back_madi, sizeof back_madi))
+BOTH(madi_write, lampcoil_verdict, madi_write, (64, words, 64, syncs, SYNCS, 0, back_madi, sizeof back_madi))
 BOTH(madi_read, lampcoil_madi_read_answer, madi_read,
-     (64, 0, LAMPCOIL_MADI_BITS(64, SYNCS), madi, sizeof madi, back_words, 64))
+     (64, 0, LAMPCOIL_MADI_BITS(64, SYNCS), madi, sizeof madi, back_words, 64, back_commands, 255))
+BOTH(madi_write_full, lampcoil_verdict, madi_write, (64, words, 64, commands, 255, 0, back_full, sizeof back_full))
+BOTH(madi_read_full, lampcoil_madi_read_answer, madi_read,
+     (64, 0, LAMPCOIL_MADI_BITS(64, 255), full, sizeof full, back_words, 64, back_commands, 255))
 BOTH(patch, lampcoil_verdict, madi_patch,
      (64, 64, leases, 64, rows, 64, words, 64, back_words, 64, verdicts, 64))
 BOTH(hd_write, lampcoil_verdict, hd_write, (1, 17, 1234, 0, 1, 0, bodies, 4, back_packet, 31))
@@ -177,7 +182,10 @@ static void prepare_carriers(void)
     lampcoil_aes3_write(samples, 384, side, 192, 0, line, 3072);
     for (int k = 0; k < 3072; k++) /* the last symbol of each subframe, and all after it, turned over */
         odd_line[k] = (uint8_t)(line[k] ^ (k / 8 % 2 == 0 ? 0x00 : 0xFF) ^ (k % 8 == 7 ? 0x01 : 0x00));
-    lampcoil_madi_write(64, words, 64, SYNCS, 0, madi, sizeof madi);
+    for (int k = 1; k < 255; k++)
+        commands[k] = (uint8_t)(draw() & 15);
+    lampcoil_madi_write(64, words, 64, syncs, SYNCS, 0, madi, sizeof madi);
+    lampcoil_madi_write(64, words, 64, commands, 255, 0, full, sizeof full);
     lampcoil_hd_write(1, 17, 1234, 0, 1, 0, bodies, 4, packet, 31);
     memcpy(damaged, packet, sizeof packet);
     for (int lane = 0; lane < 8; lane++)
@@ -279,7 +287,10 @@ static const operation all[] = {
     {"talkback, separating a block", &library_separate, &by_hand_separate, nothing, sizeof samples,
      {FILLS(back_plain), FILLS(back_voice)}},
     {"MADI write, 64 channels", &library_madi_write, &by_hand_madi_write, nothing, sizeof madi, {FILLS(back_madi)}},
-    {"MADI read, 64 channels", &library_madi_read, &by_hand_madi_read, nothing, sizeof madi, {FILLS(back_words)}},
+    {"MADI read, 64 channels", &library_madi_read, &by_hand_madi_read, nothing, sizeof madi, {FILLS(back_words), FILLS(back_commands)}},
+    {"MADI write, 64 channels and 255 commands", &library_madi_write_full, &by_hand_madi_write_full, nothing, sizeof full, {FILLS(back_full)}},
+    {"MADI read, 64 channels and 255 commands", &library_madi_read_full, &by_hand_madi_read_full, nothing, sizeof full,
+     {FILLS(back_words), FILLS(back_commands)}},
     {"patch, 64 slots of four tenants", &library_patch, &by_hand_patch, nothing, 256, {FILLS(back_words), FILLS(verdicts)}},
     {"HD write, a packet", &library_hd_write, &by_hand_hd_write, nothing, 62, {FILLS(back_packet)}},
     {"HD read, a packet", &library_hd_read, &by_hand_hd_read, nothing, 62, {FILLS(back_bodies)}},

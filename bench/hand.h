@@ -20,10 +20,10 @@ lampcoil_aes3_read_answer hand_aes3_read(const uint8_t *line, size_t line_len, i
 lampcoil_aes3_start hand_aes3_find(const uint8_t *line, size_t line_len);
 lampcoil_aes3_start hand_aes3_find_by_candidate(const uint8_t *line, size_t line_len);
 lampcoil_verdict hand_status_edit(uint8_t *status, size_t status_len, uint32_t byte, uint32_t value);
-lampcoil_verdict hand_madi_write(uint32_t channels, const uint32_t *words, size_t words_len, uint32_t syncs, uint32_t level,
-                                 uint8_t *line, size_t line_len);
+lampcoil_verdict hand_madi_write(uint32_t channels, const uint32_t *words, size_t words_len, const uint8_t *commands,
+                                 size_t commands_len, uint32_t level, uint8_t *line, size_t line_len);
 lampcoil_madi_read_answer hand_madi_read(uint32_t channels, uint32_t level, uint32_t bits, const uint8_t *line, size_t line_len,
-                                         uint32_t *words, size_t words_len);
+                                         uint32_t *words, size_t words_len, uint8_t *commands, size_t commands_len);
 lampcoil_verdict hand_madi_patch(uint32_t channels, uint32_t active, const uint8_t *leases, size_t leases_len,
                                  const uint32_t *rows, size_t rows_len, const uint32_t *frame_in, size_t frame_in_len,
                                  uint32_t *frame_out, size_t frame_out_len, uint8_t *verdicts, size_t verdicts_len);

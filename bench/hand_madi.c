@@ -1,13 +1,16 @@
-/* MADI by hand. A channel is 40 line bits, five whole octets; a sync symbol has four ones, so it leaves the level as
-   it was. */
+/* MADI by hand. A channel is 40 line bits, five whole octets; a command is ten. */
 #include "hand.h"
 
+static const uint16_t table_6[16] = {0x311, 0x3FF, 0x1AD, 0x1B9, 0x3E4, 0x1A7, 0x327, 0x339,
+                                     0x084, 0x09F, 0x080, 0x0E7, 0x0F9, 0x004, 0x01F, 0x000};
 static const uint8_t five[16] = {30, 9, 20, 21, 10, 11, 14, 15, 18, 19, 22, 23, 26, 27, 28, 29};
 
 static uint16_t twelve[4096];   /* 15 symbols of three groups, after level 0; the lowest bits first */
 static uint16_t eight[256];     /* 10 symbols of two groups */
 static uint32_t ten[1024];      /* eight bits of two groups, or NO_GROUP */
 #define NO_GROUP 0x80000000u
+static uint16_t command[16];    /* ten symbols of a command, after level 0 */
+static uint8_t commanded[1024]; /* the command that ten bits are, or 16 */
 
 static uint32_t turned(uint32_t four)
 {
@@ -37,6 +40,12 @@ void hand_init_madi(void)
                                      five[turned(x >> 8)], 15);
     for (uint32_t x = 0; x < 256; x++)
         eight[x] = (uint16_t)levels((uint32_t)five[turned(x & 15)] << 5 | five[turned(x >> 4)], 10);
+    for (uint32_t x = 0; x < 1024; x++)
+        commanded[x] = 16;
+    for (uint32_t x = 0; x < 16; x++) {
+        command[x] = (uint16_t)levels(table_6[x], 10);
+        commanded[table_6[x]] = (uint8_t)x;
+    }
     for (uint32_t x = 0; x < 1024; x++)
         ten[x] = (back[x >> 5] | back[x & 31]) & NO_GROUP ? NO_GROUP : back[x >> 5] | back[x & 31] << 4;
 }
@@ -86,23 +95,51 @@ static inline void store_five(uint8_t *p, uint64_t x)
         p[k] = (uint8_t)(x >> (32 - 8 * k));
 }
 
-/* Sync symbols, four to five octets; the last octet's spare bits are 0. */
-static void put_syncs(uint8_t *line, uint32_t syncs, uint64_t level)
+/* The 40 symbols of four commands, after a level. */
+static inline uint64_t four_of(const uint8_t *commands, uint64_t now)
 {
-    uint64_t one = 0x21Eu ^ (level & 0x3FF), four = one << 30 | one << 20 | one << 10 | one;
-    for (; syncs >= 4; syncs -= 4, line += 5)
-        store_five(line, four);
-    four = syncs == 0 ? 0 : four & ~(uint64_t)0 << (40 - 10 * syncs);
-    for (uint32_t k = 0; k < (10 * syncs + 7) / 8; k++)
-        line[k] = (uint8_t)(four >> (32 - 8 * k));
+    uint64_t x = 0;
+    for (int k = 0; k < 4; k++) {
+        uint64_t one = command[commands[k]] ^ (now & 0x3FF);
+        x = x << 10 | one;
+        now = -(one & 1);
+    }
+    return x;
 }
 
-lampcoil_verdict hand_madi_write(uint32_t channels, const uint32_t *words, size_t words_len, uint32_t syncs, uint32_t level,
-                                 uint8_t *line, size_t line_len)
+/* Commands, four to five octets; the last octet's spare bits are 0. */
+static void put_commands(uint8_t *line, const uint8_t *commands, size_t n, uint64_t now)
 {
-    if ((channels != 56 && channels != 64) || words_len - 1 >= channels || syncs - 1 > 254 || level > 1)
+    uint8_t rest[4] = {0};
+    for (; n >= 4; n -= 4, commands += 4, line += 5) {
+        uint64_t x = four_of(commands, now);
+        store_five(line, x);
+        now = -(x & 1);
+    }
+    memcpy(rest, commands, n);
+    uint64_t x = n == 0 ? 0 : four_of(rest, now) & ~(uint64_t)0 << (40 - 10 * n);
+    for (size_t k = 0; k < (10 * n + 7) / 8; k++)
+        line[k] = (uint8_t)(x >> (32 - 8 * k));
+}
+
+static int is_list(const uint8_t *commands, size_t n)
+{
+    uint32_t high = 0, zero = 0;
+    if (n - 1 > 254)
+        return 0;
+    for (size_t k = 0; k < n; k++) {
+        high |= commands[k];
+        zero |= commands[k] == 0;
+    }
+    return high < 16 && zero;
+}
+
+lampcoil_verdict hand_madi_write(uint32_t channels, const uint32_t *words, size_t words_len, const uint8_t *commands,
+                                 size_t commands_len, uint32_t level, uint8_t *line, size_t line_len)
+{
+    if ((channels != 56 && channels != 64) || words_len - 1 >= channels || !is_list(commands, commands_len) || level > 1)
         return verdict(2, 0);
-    if (line_len < (40 * channels + 10 * syncs + 7) / 8)
+    if (line_len < (40 * channels + 10 * commands_len + 7) / 8)
         return verdict(1, 0);
     lampcoil_verdict v = judge(words, words_len);
     if (v.number != 0)
@@ -121,11 +158,11 @@ lampcoil_verdict hand_madi_write(uint32_t channels, const uint32_t *words, size_
         store_five(line, x);
         now = -(x & 1);
     }
-    put_syncs(line, syncs, now);
+    put_commands(line, commands, commands_len, now);
     return v;
 }
 
-typedef struct { uint32_t words[64]; uint32_t read, active, syncs; } frame;
+typedef struct { uint32_t words[64], read, active, came, synced; uint8_t commands[255]; } frame;
 
 /* 11, 12 and 9 of a channel that the quick test has turned away. */
 static lampcoil_verdict broken(uint64_t x, uint32_t at, uint32_t c, uint32_t active)
@@ -165,10 +202,13 @@ static lampcoil_verdict take_frame(frame *f, const uint8_t *line, uint32_t chann
     while (at < bits) {
         uint64_t x = load_be64(line + at / 8) << at % 8 >> 24;   /* 40 symbols; level: the one before */
         uint64_t change = (x ^ (x >> 1 | level << 39)) & 0xFFFFFFFFFFu;
-        if (change >> 30 == 0x311 && bits - at >= 10) {
-            if (f->syncs == 255)
+        uint32_t c = commanded[change >> 30];
+        if (c < 16 && bits - at >= 10) {
+            if (f->came == 255)
                 return verdict(10, at);
-            f->syncs++;
+            f->commands[f->came++] = (uint8_t)c;
+            f->synced |= c == 0;
+            level = x >> 30 & 1;
             at += 10;
         } else {
             if (bits - at < 40 || f->read == channels)
@@ -180,11 +220,11 @@ static lampcoil_verdict take_frame(frame *f, const uint8_t *line, uint32_t chann
             at += 40;
         }
     }
-    return f->read < channels || f->syncs == 0 ? verdict(10, bits) : verdict(0, 0);
+    return f->read < channels || !f->synced ? verdict(10, bits) : verdict(0, 0);
 }
 
 lampcoil_madi_read_answer hand_madi_read(uint32_t channels, uint32_t level, uint32_t bits, const uint8_t *line, size_t line_len,
-                                         uint32_t *words, size_t words_len)
+                                         uint32_t *words, size_t words_len, uint8_t *commands, size_t commands_len)
 {
     lampcoil_madi_read_answer r = {0, 0, 0, 0};
     uint8_t room[648];
@@ -193,7 +233,7 @@ lampcoil_madi_read_answer hand_madi_read(uint32_t channels, uint32_t level, uint
         r.number = 2;
         return r;
     }
-    if (line_len != (bits + 7) / 8 || words_len != channels) {
+    if (line_len != (bits + 7) / 8 || words_len != channels || commands_len != 255) {
         r.number = 1;
         return r;
     }
@@ -204,14 +244,16 @@ lampcoil_madi_read_answer hand_madi_read(uint32_t channels, uint32_t level, uint
     if (line_len != 0)
         memcpy(room, line, line_len);
     memset(room + line_len, 0, 8);
-    f.read = f.active = f.syncs = 0;
+    f.read = f.active = f.came = f.synced = 0;
+    memset(f.commands, 0, sizeof f.commands);
     lampcoil_verdict v = take_frame(&f, room, channels, level, bits);
     r.number = v.number;
     r.place = v.place;
     if (v.number != 0)
         return r;
     memcpy(words, f.words, channels * sizeof words[0]);
+    memcpy(commands, f.commands, sizeof f.commands);
     r.active = f.active;
-    r.syncs = f.syncs;
+    r.commands = f.came;
     return r;
 }

@@ -89,15 +89,17 @@ static void report_hd(unsigned long n, const uint8_t *p, size_t length)
 static void report_madi(unsigned long n, const uint8_t *p, size_t length)
 {
     uint32_t words[256];
+    uint8_t commands[255];
     if (length < 4) {
         report_refused(n, 1, 0);
         return;
     }
-    lampcoil_madi_read_answer r = hand_madi_read(p[0], p[1], (uint32_t)p[2] << 8 | p[3], p + 4, length - 4, words, p[0]);
+    lampcoil_madi_read_answer r = hand_madi_read(p[0], p[1], (uint32_t)p[2] << 8 | p[3], p + 4, length - 4, words, p[0], commands,
+                                                 sizeof commands);
     if (r.number)
         report_refused(n, r.number, r.place);
     else
-        report_line(n, " madi ok ", 9, r.active, r.syncs);
+        report_line(n, " madi ok ", 9, r.active, r.commands);
 }
 
 static void report(unsigned long n, const uint8_t *p, size_t length)

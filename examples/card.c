@@ -6,7 +6,7 @@
 #include <stdio.h>
 #include <string.h>
 
-enum { FRAMES = LAMPCOIL_BLOCK_SAMPLES / 2, CHANNELS = LAMPCOIL_MADI_MOST_CHANNELS, SYNCS = 9, GROUP = 1, STRETCH = 8 };
+enum { FRAMES = LAMPCOIL_BLOCK_SAMPLES / 2, CHANNELS = LAMPCOIL_MADI_MOST_CHANNELS, COMMANDS = 9, GROUP = 1, STRETCH = 8 };
 
 /* What a tenant gives to be sent. */
 typedef struct {
@@ -20,8 +20,9 @@ typedef struct {
     uint8_t line[LAMPCOIL_BLOCK_OCTETS];
     int32_t samples[LAMPCOIL_BLOCK_SAMPLES];
     uint8_t side[LAMPCOIL_SIDE_OCTETS];
-    uint8_t madi[LAMPCOIL_MADI_OCTETS(CHANNELS, SYNCS)];
+    uint8_t madi[LAMPCOIL_MADI_OCTETS(CHANNELS, COMMANDS)];
     uint32_t words[CHANNELS];
+    uint8_t commands[LAMPCOIL_MADI_MOST_COMMANDS];
     uint16_t packet[LAMPCOIL_PACKET_WORDS], repaired[LAMPCOIL_PACKET_WORDS];
     uint32_t bodies[LAMPCOIL_PACKET_BODIES];
     int32_t joined[LAMPCOIL_BLOCK_SAMPLES], program[LAMPCOIL_BLOCK_SAMPLES], voice[LAMPCOIL_VOICE_SAMPLES];
@@ -169,20 +170,23 @@ static int send_by_card(const tenant *t, const memory *m)
 /* A frame with the two channels first and all others inactive. */
 static int over_madi(const tenant *t, uint32_t frame, memory *m)
 {
+    /* the default sync, and HDLC 0 to a preamp between two of them */
+    static const uint8_t said[COMMANDS] = {0, 8, 0};
     uint32_t sent[2], start = frame == 0 ? LAMPCOIL_MADI_BLOCK_START : 0;
     if (body_of(t, 0, frame, &sent[0]) || body_of(t, 1, frame, &sent[1]))
         return 1;
     sent[0] |= start;
     sent[1] |= start | LAMPCOIL_MADI_B_SUBFRAME;
-    lampcoil_verdict v = lampcoil_madi_write(CHANNELS, sent, 2, SYNCS, 1, m->madi, sizeof m->madi);
+    lampcoil_verdict v = lampcoil_madi_write(CHANNELS, sent, 2, said, COMMANDS, 1, m->madi, sizeof m->madi);
     if (REFUSED("madi write", v))
         return 1;
-    lampcoil_madi_read_answer r = lampcoil_madi_read(CHANNELS, 1, LAMPCOIL_MADI_BITS(CHANNELS, SYNCS), m->madi,
-                                                     sizeof m->madi, m->words, CHANNELS);
+    lampcoil_madi_read_answer r = lampcoil_madi_read(CHANNELS, 1, LAMPCOIL_MADI_BITS(CHANNELS, COMMANDS), m->madi,
+                                                     sizeof m->madi, m->words, CHANNELS, m->commands,
+                                                     sizeof m->commands);
     if (REFUSED("madi read", r))
         return 1;
-    printf("  madi: %u channels active, %u syncs\n", r.active, r.syncs);
-    return memcmp(m->words, sent, sizeof sent) != 0 ? differ("madi") : 0;
+    printf("  madi: %u channels active, %u commands\n", r.active, r.commands);
+    return memcmp(m->words, sent, sizeof sent) != 0 || memcmp(m->commands, said, sizeof said) != 0 ? differ("madi") : 0;
 }
 
 /* A packet of two frames, hurt on the way in one word and mended. A channel that is not active would be body 0. */
@@ -288,6 +292,7 @@ static int go_home(uint8_t *table, uint32_t tenant, uint32_t *rows)
 /* One frame by the lease table, and out on MADI as it is. */
 static int patch(const uint8_t *table, uint32_t active, const uint32_t *rows, const uint32_t *in, memory *m)
 {
+    static const uint8_t syncs[COMMANDS] = {0};
     uint32_t out[CHANNELS];
     uint8_t verdicts[CHANNELS];
     lampcoil_verdict v = lampcoil_madi_patch(CHANNELS, active, table, LAMPCOIL_LEASE_SLOTS, rows, CHANNELS, in, CHANNELS, out, CHANNELS,
@@ -296,11 +301,11 @@ static int patch(const uint8_t *table, uint32_t active, const uint32_t *rows, co
         return 1;
     for (uint32_t k = 0; k < active; k++)
         printf("  slot %u of tenant %u from slot %u: verdict %u\n", k, table[k], rows[k], verdicts[k]);
-    v = lampcoil_madi_write(CHANNELS, out, active, SYNCS, 0, m->madi, sizeof m->madi);
+    v = lampcoil_madi_write(CHANNELS, out, active, syncs, COMMANDS, 0, m->madi, sizeof m->madi);
     if (REFUSED("madi write", v))
         return 1;
-    lampcoil_madi_read_answer r = lampcoil_madi_read(CHANNELS, 0, LAMPCOIL_MADI_BITS(CHANNELS, SYNCS), m->madi,
-                                                     sizeof m->madi, m->words, CHANNELS);
+    lampcoil_madi_read_answer r = lampcoil_madi_read(CHANNELS, 0, LAMPCOIL_MADI_BITS(CHANNELS, COMMANDS), m->madi,
+                                                     sizeof m->madi, m->words, CHANNELS, m->commands, sizeof m->commands);
     return REFUSED("madi read", r) || memcmp(m->words, out, sizeof out) != 0 ? differ("patched frame") : 0;
 }
 

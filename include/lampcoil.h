@@ -30,8 +30,8 @@ extern "C" {
 #endif
 
 /* The version of this header and of the library beside it. A larger MAJOR may take something away; MINOR adds. */
-#define LAMPCOIL_VERSION "4.0.0"
-#define LAMPCOIL_VERSION_MAJOR 4
+#define LAMPCOIL_VERSION "5.0.0"
+#define LAMPCOIL_VERSION_MAJOR 5
 #define LAMPCOIL_VERSION_MINOR 0
 #define LAMPCOIL_VERSION_PATCH 0
 
@@ -100,10 +100,10 @@ static inline const char *lampcoil_refusal_text(uint32_t number)
 #define LAMPCOIL_BIPHASE_ENTRIES 256u
 #define LAMPCOIL_FIND_MOST_OCTETS 8192u
 #define LAMPCOIL_MADI_MOST_CHANNELS 64u
-#define LAMPCOIL_MADI_MOST_SYNCS 255u
+#define LAMPCOIL_MADI_MOST_COMMANDS 255u
 #define LAMPCOIL_MADI_MOST_BITS 5110u
-#define LAMPCOIL_MADI_BITS(channels, syncs) (40u * (channels) + 10u * (syncs))
-#define LAMPCOIL_MADI_OCTETS(channels, syncs) ((LAMPCOIL_MADI_BITS(channels, syncs) + 7u) / 8u)
+#define LAMPCOIL_MADI_BITS(channels, commands) (40u * (channels) + 10u * (commands))
+#define LAMPCOIL_MADI_OCTETS(channels, commands) ((LAMPCOIL_MADI_BITS(channels, commands) + 7u) / 8u)
 #define LAMPCOIL_LEASE_SLOTS 64u
 #define LAMPCOIL_LEASE_MOVES 128u
 #define LAMPCOIL_PACKET_WORDS 31u
@@ -312,24 +312,30 @@ lampcoil_verdict lampcoil_talkback_separate(const int32_t *samples, size_t sampl
                                             int32_t *program, size_t program_len,
                                             int32_t *voice, size_t voice_len);
 
-/* ---- MADI: a frame of 56 or 64 channels of 40 line bits, then sync symbols of ten. ---- */
+/* ---- MADI: a frame of 56 or 64 channels of 40 line bits, and command symbols of ten. A command is a number 0 to 15 of
+   BS.1873's table 6; command 0 is the default sync, and every frame has at least one. ---- */
 
-/* Writes a frame: words_len active channels, the others inactive, then `syncs` sync symbols. A word is a body, with
-   bits 2 and 3 (B subframe, block start) as the caller sets them. Writes the first LAMPCOIL_MADI_OCTETS(channels,
-   syncs) octets of the line, unused bits of the last of them 0; the octets after them are unchanged.
-   Order: RANGE (channels 56 or 64, words_len 1 to channels, syncs 1 to 255, level 0 or 1), LENGTH (line at least the
-   octets needed), PARITY over all words, STATE (bit 0 or 1 set) over all words. */
+/* Writes a frame: words_len active channels, the others inactive, then the commands in their order. A word is a body,
+   with bits 2 and 3 (B subframe, block start) as the caller sets them. Writes the first LAMPCOIL_MADI_OCTETS(channels,
+   commands_len) octets of the line, unused bits of the last of them 0; the octets after them are unchanged.
+   Order: RANGE (channels 56 or 64, words_len 1 to channels, commands_len 1 to 255, a command above 15, no command 0,
+   level 0 or 1), LENGTH (line at least the octets needed), PARITY over all words, STATE (bit 0 or 1 set) over all
+   words. */
 lampcoil_verdict lampcoil_madi_write(uint32_t channels, const uint32_t *words, size_t words_len,
-                                     uint32_t syncs, uint32_t level, uint8_t *line, size_t line_len);
+                                     const uint8_t *commands, size_t commands_len,
+                                     uint32_t level, uint8_t *line, size_t line_len);
 
-/* Reads a frame of `bits` bits; sync symbols may stand at any boundary between channels. Fills all the words, bits 0
-   and 1 cleared, inactive channels 0; returns the number of active channels and of sync symbols.
+/* Reads a frame of `bits` bits; commands may stand at any boundary between channels. Fills all the words, bits 0 and 1
+   cleared, inactive channels 0, and all 255 places of the list: the commands in their order, and 0 after them; returns
+   the number of active channels and of commands.
    Order: RANGE (channels, level, bits at most 5,110), LENGTH (line exactly the octets of `bits`, words exactly
-   `channels`), RANGE (a spare bit of the last octet set), then unit by unit FRAME, GROUP, STATE, PARITY. */
-typedef struct { uint32_t number, place, active, syncs; } lampcoil_madi_read_answer;
+   `channels`, commands exactly 255), RANGE (a spare bit of the last octet set), then unit by unit FRAME, GROUP, STATE,
+   PARITY. Ten bits that are none of the sixteen begin a channel. */
+typedef struct { uint32_t number, place, active, commands; } lampcoil_madi_read_answer;
 lampcoil_madi_read_answer lampcoil_madi_read(uint32_t channels, uint32_t level, uint32_t bits,
                                              const uint8_t *line, size_t line_len,
-                                             uint32_t *words, size_t words_len);
+                                             uint32_t *words, size_t words_len,
+                                             uint8_t *commands, size_t commands_len);
 
 /* ---- Slot leases: a table of 64 octets, slot k in octet k: its tenant, 1 to 255, or 0 where it is free. 64 zeros are
    the empty table; whatever is called, a table stays one. ---- */

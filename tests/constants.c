@@ -152,27 +152,29 @@ static void test_columns(void)
 
 static void test_madi(void)
 {
-    const uint32_t most = LAMPCOIL_MADI_MOST_CHANNELS, syncs = LAMPCOIL_MADI_MOST_SYNCS;
-    const uint32_t bits = LAMPCOIL_MADI_BITS(most, syncs), octets = LAMPCOIL_MADI_OCTETS(most, syncs);
+    const uint32_t most = LAMPCOIL_MADI_MOST_CHANNELS, many = LAMPCOIL_MADI_MOST_COMMANDS;
+    const uint32_t bits = LAMPCOIL_MADI_BITS(most, many), octets = LAMPCOIL_MADI_OCTETS(most, many);
+    static uint8_t commands[LAMPCOIL_MADI_MOST_COMMANDS + 1];
     EXPECT(bits == LAMPCOIL_MADI_MOST_BITS);
     memset(words, 0, sizeof words);
     words[0] = LAMPCOIL_MADI_B_SUBFRAME;
     words[1] = LAMPCOIL_MADI_BLOCK_START;
-    GIVES(lampcoil_madi_write(most, words, most, syncs, 0, line, octets), LAMPCOIL_ACCEPTED);
-    GIVES(lampcoil_madi_write(most, words, most, syncs, 0, line, octets - 1), LAMPCOIL_REFUSED_LENGTH);
-    GIVES(lampcoil_madi_write(most + 1, words, most, syncs, 0, line, sizeof line), LAMPCOIL_REFUSED_RANGE);
-    GIVES(lampcoil_madi_write(most, words, most, syncs + 1, 0, line, sizeof line), LAMPCOIL_REFUSED_RANGE);
-    GIVES(lampcoil_madi_read(most, 0, bits, line, octets, words, most), LAMPCOIL_ACCEPTED);
+    GIVES(lampcoil_madi_write(most, words, most, commands, many, 0, line, octets), LAMPCOIL_ACCEPTED);
+    GIVES(lampcoil_madi_write(most, words, most, commands, many, 0, line, octets - 1), LAMPCOIL_REFUSED_LENGTH);
+    GIVES(lampcoil_madi_write(most + 1, words, most, commands, many, 0, line, sizeof line), LAMPCOIL_REFUSED_RANGE);
+    GIVES(lampcoil_madi_write(most, words, most, commands, many + 1, 0, line, sizeof line), LAMPCOIL_REFUSED_RANGE);
+    GIVES(lampcoil_madi_read(most, 0, bits, line, octets, words, most, commands, many), LAMPCOIL_ACCEPTED);
     EXPECT(words[0] == LAMPCOIL_MADI_B_SUBFRAME && words[1] == LAMPCOIL_MADI_BLOCK_START && words[2] == 0);
     EXPECT(line[0] >> 3 == 0x17); /* the first channel's bits 0 to 3 are 1110, group 11100: levels 1 0 1 1 1 */
-    GIVES(lampcoil_madi_read(most, 0, bits + 1, line, octets, words, most), LAMPCOIL_REFUSED_RANGE);
-    GIVES(lampcoil_madi_read(most, 0, 0, line, 0, words, most), LAMPCOIL_REFUSED_FRAME);
+    GIVES(lampcoil_madi_read(most, 0, bits + 1, line, octets, words, most, commands, many), LAMPCOIL_REFUSED_RANGE);
+    GIVES(lampcoil_madi_read(most, 0, 0, line, 0, words, most, commands, many), LAMPCOIL_REFUSED_FRAME);
     words[0] = 1;
-    GIVES(lampcoil_madi_write(most, words, most, syncs, 0, line, octets), LAMPCOIL_REFUSED_STATE);
+    GIVES(lampcoil_madi_write(most, words, most, commands, many, 0, line, octets), LAMPCOIL_REFUSED_STATE);
     words[0] = 16;
-    GIVES(lampcoil_madi_write(most, words, most, syncs, 0, line, octets), LAMPCOIL_REFUSED_PARITY);
-    memset(line, 0, octets);
-    GIVES(lampcoil_madi_read(most, 0, bits, line, octets, words, most), LAMPCOIL_REFUSED_GROUP);
+    GIVES(lampcoil_madi_write(most, words, most, commands, many, 0, line, octets), LAMPCOIL_REFUSED_PARITY);
+    memset(line, 0x55, octets); /* 01111 is data, and 11111 after it is not */
+    line[octets - 1] = 0x54;
+    GIVES(lampcoil_madi_read(most, 0, bits, line, octets, words, most, commands, many), LAMPCOIL_REFUSED_GROUP);
 }
 
 /* A table and its moves, at their lengths and beside them; one slot more than there are. */

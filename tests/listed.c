@@ -277,11 +277,11 @@ static void test_madi(void)
     const char *printed = "0100110010001101010010101101100110010101";
     static const int set[] = {4, 6, 9, 11, 12, 13, 14, 15, 20, 21, 26, 27};
     uint32_t word = 0;
-    uint8_t line[640];
+    uint8_t line[640], list[1] = {0};
     int same = 1;
     for (size_t k = 0; k < sizeof set / sizeof set[0]; k++)
         word += weight(set[k]);
-    expect(lampcoil_madi_write(56, &word, 1, 1, 0, line, 640).number == 0, "frame");
+    expect(lampcoil_madi_write(56, &word, 1, list, 1, 0, line, 640).number == 0, "frame");
     for (int k = 0; k < 39; k++)
         if (symbol_of(line, k) != printed[k + 1] - '0')
             same = 0;
@@ -291,18 +291,19 @@ static void test_madi(void)
 static void test_madi_counts(void)
 {
     uint32_t back[64], words[64] = {0};
-    uint8_t line[640];
-    expect(lampcoil_madi_write(64, words, 64, 255, 1, line, 639).number == 0, "255 syncs");
-    lampcoil_madi_read_answer r = lampcoil_madi_read(64, 1, 5110, line, 639, back, 64);
-    expect(r.number == 0 && r.active == 64 && r.syncs == 255, "255 syncs read");
-    expect(lampcoil_madi_write(64, words, 64, 256, 1, line, 640).number == 2, "256 syncs");
-    expect(lampcoil_madi_write(64, words, 0, 1, 1, line, 640).number == 2, "0 active channels");
-    expect(lampcoil_madi_read(64, 0, 0, line, 0, back, 64).number == 10, "no bits");
+    uint8_t line[640], list[256] = {0}, got[255];
+    expect(lampcoil_madi_write(64, words, 64, list, 255, 1, line, 639).number == 0, "255 syncs");
+    lampcoil_madi_read_answer r = lampcoil_madi_read(64, 1, 5110, line, 639, back, 64, got, 255);
+    expect(r.number == 0 && r.active == 64 && r.commands == 255, "255 syncs read");
+    expect(lampcoil_madi_write(64, words, 64, list, 256, 1, line, 640).number == 2, "256 syncs");
+    expect(lampcoil_madi_write(64, words, 64, list, 0, 1, line, 640).number == 2, "no command");
+    expect(lampcoil_madi_write(64, words, 0, list, 1, 1, line, 640).number == 2, "0 active channels");
+    expect(lampcoil_madi_read(64, 0, 0, line, 0, back, 64, got, 255).number == 10, "no bits");
     /* one more sync after 255: the same ten symbols again, since a sync leaves the level as it was */
-    lampcoil_madi_write(56, words, 56, 255, 0, line, 640);
+    lampcoil_madi_write(56, words, 56, list, 255, 0, line, 640);
     for (int k = 4790; k < 4800; k++)
         line[k / 8] = (uint8_t)((line[k / 8] & ~(128 >> k % 8)) | symbol_of(line, k - 10) << (7 - k % 8));
-    r = lampcoil_madi_read(56, 0, 4800, line, 600, back, 56);
+    r = lampcoil_madi_read(56, 0, 4800, line, 600, back, 56, got, 255);
     expect(r.number == 10 && r.place == 4790, "a 256th sync read");
     /* no active channel: 11110 eight times a channel, then a sync */
     const char *sync = "1100010001";
@@ -311,8 +312,37 @@ static void test_madi_counts(void)
         level ^= k < 2240 ? k % 5 != 4 : sync[k - 2240] == '1';
         line[k / 8] = (uint8_t)(line[k / 8] | level << (7 - k % 8));
     }
-    r = lampcoil_madi_read(56, 0, 2250, line, 282, back, 56);
+    r = lampcoil_madi_read(56, 0, 2250, line, 282, back, 56, got, 255);
     expect(r.number == 12 && r.place == 0, "0 active channels read");
+}
+
+/* The sixteen commands of BS.1873's table 6, as they stand on a line after the last channel. */
+static void test_madi_commands(void)
+{
+    static const char *const table[16] = {"1100010001", "1111111111", "0110101101", "0110111001",
+                                          "1111100100", "0110100111", "1100100111", "1100111001",
+                                          "0010000100", "0010011111", "0010000000", "0011100111",
+                                          "0011111001", "0000000100", "0000011111", "0000000000"};
+    uint32_t words[64] = {0};
+    uint8_t line[600], list[16], got[255];
+    for (int c = 0; c < 16; c++)
+        list[c] = (uint8_t)c;
+    expect(lampcoil_madi_write(56, words, 56, list, 16, 0, line, 600).number == 0, "sixteen commands");
+    int same = 1;
+    for (int k = 0; k < 160; k++)
+        if ((symbol_of(line, 2240 + k) != symbol_of(line, 2239 + k)) != (table[k / 10][k % 10] == '1'))
+            same = 0;
+    expect(same, "the symbols of the sixteen commands");
+    memset(got, 9, sizeof got);
+    lampcoil_madi_read_answer r = lampcoil_madi_read(56, 0, 2400, line, 300, words, 56, got, 255);
+    same = r.number == 0 && r.commands == 16 && memcmp(got, list, 16) == 0;
+    for (int k = 16; k < 255; k++)
+        same = same && got[k] == 0;
+    expect(same, "the commands in their order, and zeros after them");
+    expect(lampcoil_madi_write(56, words, 56, list + 1, 15, 0, line, 600).number == 2, "a list without 0");
+    list[15] = 16;
+    expect(lampcoil_madi_write(56, words, 56, list, 16, 0, line, 600).number == 2, "command 16");
+    expect(lampcoil_madi_read(56, 0, 2400, line, 300, words, 56, got, 254).number == 1, "a list of 254");
 }
 
 /* The patch: each verdict, the first that applies; what is carried of a word; refusals in their order. */
@@ -514,6 +544,7 @@ int main(void)
     test_packet();
     test_madi();
     test_madi_counts();
+    test_madi_commands();
     test_patch();
     test_leases();
     test_compared();

@@ -60,6 +60,7 @@ void compare_small(uint32_t cases);
 void compare_aes3(uint32_t cases);
 void compare_length(void);
 void compare_madi(uint32_t cases);
+void compare_commands(void);
 void compare_patch(uint32_t cases);
 void compare_leases(uint32_t cases);
 void compare_hd(uint32_t cases);

@@ -20,15 +20,20 @@ static uint32_t marked_body(void)
 
 static void madi_write(void)
 {
-    uint32_t words[80], channels = any_channels(), syncs = once_in(8) ? any_number(255) : 1 + below(20), level = any_number(1);
-    size_t n = 1 + below(64), bits, m;
+    uint32_t words[80], channels = any_channels(), level = any_number(1);
+    uint8_t list[300];
+    size_t n = 1 + below(64), commands = once_in(8) ? below(260) : 1 + below(20), bits, m;
     if (once_in(4))
         n = channels < 70 ? channels : 64;
     if (once_in(10))
         n = below(70);
     if (once_in(8))
-        syncs = 254 + below(3);
-    bits = 40 * (size_t)(channels < 70 ? channels : 64) + 10 * (size_t)(syncs < 300 ? syncs : 1);
+        commands = 254 + below(3);
+    for (int k = 0; k < 300; k++)
+        list[k] = once_in(2) ? 0 : (uint8_t)below(16);
+    if (once_in(8))
+        list[below(20)] = (uint8_t)(16 + below(240));
+    bits = 40 * (size_t)(channels < 70 ? channels : 64) + 10 * commands;
     m = (bits + 7) / 8 + (once_in(2) ? 0 : below(40));
     if (!edge_set() && once_in(12)) /* at an edge the start of the line is written, whatever length is told */
         m = below(700);
@@ -42,20 +47,28 @@ static void madi_write(void)
             words[two] |= 1 + below(3);
     }
     begin("madi_write");
-    lent in = lend_in("words", words, n, 4), out = lend_start("line", m, 1);
-    lampcoil_verdict a = lampcoil_madi_write(channels, in.library, in.elements, syncs, level, out.library, out.elements);
-    second_verdict b = second_madi_write(channels, in.second, in.elements, syncs, level, out.second, out.elements);
+    lent in = lend_in("words", words, n, 4), said = lend_in("commands", list, commands, 1), out = lend_start("line", m, 1);
+    lampcoil_verdict a = lampcoil_madi_write(channels, in.library, in.elements, said.library, said.elements, level, out.library,
+                                             out.elements);
+    second_verdict b = second_madi_write(channels, in.second, in.elements, said.second, said.elements, level, out.second,
+                                         out.elements);
     END(a, b);
 }
 
-/* A frame with syncs at any boundaries. */
+static void add_commands(spoil_row *r, uint32_t count)
+{
+    for (; count > 0; count--)
+        spoil_add_command(r, once_in(2) ? 0 : below(16));
+}
+
+/* A frame with commands at any boundaries. */
 static void good_frame(spoil_row *r, uint32_t channels, uint32_t active)
 {
     int spread = once_in(2);
     r->bits = 0;
     for (uint32_t c = 0; c < channels; c++) {
         if (spread && once_in(16))
-            spoil_add_syncs(r, below(4));
+            add_commands(r, below(4));
         uint32_t word = c < active ? marked_body() | 2u | (c == 0) : 0;
         if (once_in(2000)) /* a wrong bit, first without and then with odd parity */
             word = word ^ second_weight((int)below(32));
@@ -63,7 +76,7 @@ static void good_frame(spoil_row *r, uint32_t channels, uint32_t active)
             word = word ^ second_weight((int)below(4));
         spoil_add_channel(r, word);
     }
-    spoil_add_syncs(r, once_in(16) ? 240 + below(18) : once_in(20) ? 0 : 1 + below(9));
+    add_commands(r, once_in(16) ? 240 + below(18) : once_in(20) ? 0 : 1 + below(9));
 }
 
 static void damage(spoil_row *r)
@@ -83,7 +96,7 @@ static void damage(spoil_row *r)
         spoil_add_channel(r, once_in(2) ? 0 : even_body() | 2u);
         break;
     case 4:
-        spoil_add_syncs(r, 1 + below(3));
+        add_commands(r, 1 + below(3));
         at = draw();
         spoil_add_bits(r, at, (int)below(32));
         break;
@@ -115,10 +128,13 @@ static void madi_read(void)
     if (once_in(24))
         n = below((uint32_t)n + 2);
     m = once_in(24) ? below(66) : channels < 70 ? channels : m;
+    size_t places = any_length(255);
     begin("madi_read");
-    lent in = lend_in("line", line, n, 1), out = lend_out("words", m, 4);
-    lampcoil_madi_read_answer a = lampcoil_madi_read(channels, level, bits, in.library, in.elements, out.library, out.elements);
-    second_madi_read_answer b = second_madi_read(channels, level, bits, in.second, in.elements, out.second, out.elements);
+    lent in = lend_in("line", line, n, 1), out = lend_out("words", m, 4), list = lend_out("commands", places, 1);
+    lampcoil_madi_read_answer a =
+        lampcoil_madi_read(channels, level, bits, in.library, in.elements, out.library, out.elements, list.library, list.elements);
+    second_madi_read_answer b =
+        second_madi_read(channels, level, bits, in.second, in.elements, out.second, out.elements, list.second, list.elements);
     END(a, b);
 }
 
@@ -130,6 +146,7 @@ void compare_madi(uint32_t cases)
         madi_read();
         madi_read();
     }
+    compare_commands();
     at_the_edges(madi_write);
     at_the_edges(madi_read);
     must_have_seen("madi_write", of_write);

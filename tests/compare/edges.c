@@ -18,6 +18,7 @@ static const struct { const char *entry, *argument; } slices[] = {
     {"biphase_table", "table"},
     {"aes3_read", "side"},      {"aes3_find", "line"},      {"aes3_align", "line"},
     {"aes3_align", "block"},    {"madi_write", "words"},   {"madi_write", "line"},
+    {"madi_write", "commands"}, {"madi_read", "commands"},
     {"madi_read", "line"},      {"madi_read", "words"},     {"hd_write", "bodies"},    {"hd_write", "words"},
     {"hd_read", "words"},       {"hd_read", "bodies"},      {"hd_repair", "words"},    {"hd_repair", "repaired"},
     {"talkback_join", "program"},      {"talkback_join", "voice"},       {"talkback_join", "side"},

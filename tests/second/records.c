@@ -150,7 +150,7 @@ static void frame_row(spoil_row *r, uint32_t channels, int way)
         if (way == MADI_PARITY && c == at)
             word = word ^ 0x10000u;
         if (way == MADI_SPREAD && record_below(8) == 0)
-            spoil_add_syncs(r, 1 + record_below(3));
+            spoil_add_command(r, record_below(16));
         spoil_add_channel(r, word);
         if (way == MADI_GROUP && c == at)
             memset(r->bit + r->bits - 5 * (1 + record_below(8)), 0, 5);

@@ -40,16 +40,18 @@ static void report_hd(unsigned long n, const uint8_t *payload, size_t length)
 static void report_madi(unsigned long n, const uint8_t *payload, size_t length)
 {
     uint32_t words[256];
+    uint8_t commands[255];
     if (length < 4) {
         refused(n, 1, 0);
         return;
     }
     uint32_t bits = payload[2] * 256u + payload[3];
-    second_madi_read_answer r = second_madi_read(payload[0], payload[1], bits, payload + 4, length - 4, words, payload[0]);
+    second_madi_read_answer r = second_madi_read(payload[0], payload[1], bits, payload + 4, length - 4, words, payload[0], commands,
+                                                 sizeof commands);
     if (r.number != 0)
         refused(n, r.number, r.place);
     else
-        printf("%lu madi ok %u %u\n", n, (unsigned)r.active, (unsigned)r.syncs);
+        printf("%lu madi ok %u %u\n", n, (unsigned)r.active, (unsigned)r.commands);
 }
 
 static void report_record(unsigned long n, const uint8_t *record, size_t length)

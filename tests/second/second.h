@@ -36,7 +36,7 @@ typedef struct {
 
 typedef struct { uint32_t number, place, crcc_a, crcc_b; } second_aes3_read_answer;
 typedef struct { uint32_t number, place, position, compared; } second_aes3_start;
-typedef struct { uint32_t number, place, active, syncs; } second_madi_read_answer;
+typedef struct { uint32_t number, place, active, commands; } second_madi_read_answer;
 typedef struct { uint32_t number, place; uint64_t slots; } second_lease;
 typedef struct { uint32_t number, place, leased; } second_lease_closed;
 typedef struct { uint32_t number, place, group, dbn, phase, ck12, z1, z2; } second_hd_read_answer;
@@ -67,10 +67,10 @@ second_verdict second_talkback_join(const int32_t *program, size_t program_len, 
 second_verdict second_talkback_separate(const int32_t *samples, size_t samples_len, const uint8_t *side, size_t side_len,
                                         int32_t *program, size_t program_len, int32_t *voice, size_t voice_len);
 
-second_verdict second_madi_write(uint32_t channels, const uint32_t *words, size_t words_len, uint32_t syncs, uint32_t level,
-                                 uint8_t *line, size_t line_len);
+second_verdict second_madi_write(uint32_t channels, const uint32_t *words, size_t words_len, const uint8_t *commands,
+                                 size_t commands_len, uint32_t level, uint8_t *line, size_t line_len);
 second_madi_read_answer second_madi_read(uint32_t channels, uint32_t level, uint32_t bits, const uint8_t *line, size_t line_len,
-                                         uint32_t *words, size_t words_len);
+                                         uint32_t *words, size_t words_len, uint8_t *commands, size_t commands_len);
 second_verdict second_madi_patch(uint32_t channels, uint32_t active, const uint8_t *leases, size_t leases_len,
                                  const uint32_t *rows, size_t rows_len, const uint32_t *frame_in, size_t frame_in_len,
                                  uint32_t *frame_out, size_t frame_out_len, uint8_t *verdicts, size_t verdicts_len);

@@ -4,7 +4,12 @@
 /* The groups of five for 0000 to 1111, leftmost first. */
 static const char *const groups[16] = {"11110", "01001", "10100", "10101", "01010", "01011", "01110", "01111",
                                        "10010", "10011", "10110", "10111", "11010", "11011", "11100", "11101"};
-static const char *const sync = "1100010001";
+
+/* Table 6: commands 0 to F, two symbols each. */
+static const char *const commands_of[16] = {"1100010001", "1111111111", "0110101101", "0110111001",
+                                            "1111100100", "0110100111", "1100100111", "1100111001",
+                                            "0010000100", "0010011111", "0010000000", "0011100111",
+                                            "0011111001", "0000000100", "0000011111", "0000000000"};
 
 enum { MOST_BITS = 5110 };
 
@@ -39,14 +44,29 @@ static second_verdict verdict(uint32_t number, uint32_t place)
     return r;
 }
 
-second_verdict second_madi_write(uint32_t channels, const uint32_t *words, size_t words_len, uint32_t syncs, uint32_t level,
-                                 uint8_t *line, size_t line_len)
+/* 1 to 255 commands, none above 15, at least one of them 0. */
+static int is_list(const uint8_t *commands, size_t commands_len)
+{
+    int zeros = 0;
+    if (commands_len < 1 || commands_len > 255)
+        return 0;
+    for (size_t k = 0; k < commands_len; k++) {
+        if (commands[k] > 15)
+            return 0;
+        if (commands[k] == 0)
+            zeros = zeros + 1;
+    }
+    return zeros > 0;
+}
+
+second_verdict second_madi_write(uint32_t channels, const uint32_t *words, size_t words_len, const uint8_t *commands,
+                                 size_t commands_len, uint32_t level, uint8_t *line, size_t line_len)
 {
     if (channels != 56 && channels != 64)
         return verdict(2, 0);
-    if (words_len < 1 || words_len > channels || syncs < 1 || syncs > 255 || level > 1)
+    if (words_len < 1 || words_len > channels || level > 1 || !is_list(commands, commands_len))
         return verdict(2, 0);
-    long bits = 40L * (long)channels + 10L * (long)syncs;
+    long bits = 40L * (long)channels + 10L * (long)commands_len;
     if (line_len < (size_t)((bits + 7) / 8))
         return verdict(1, 0);
     for (uint32_t c = 0; c < words_len; c++)
@@ -66,8 +86,8 @@ second_verdict second_madi_write(uint32_t channels, const uint32_t *words, size_
         }
         send_channel(&p, bit);
     }
-    for (uint32_t s = 0; s < syncs; s++)
-        send(&p, sync);
+    for (size_t k = 0; k < commands_len; k++)
+        send(&p, commands_of[commands[k]]);
     for (; p.place % 8 != 0; p.place++)
         second_put(line, p.place, 0);
     return verdict(0, 0);
@@ -77,8 +97,9 @@ second_verdict second_madi_write(uint32_t channels, const uint32_t *words, size_
 typedef struct {
     int bit[MOST_BITS];
     long bits, at;
-    uint32_t channels, read, active, syncs;
+    uint32_t channels, read, active, came;
     uint32_t words[64];
+    uint8_t commands[255];
 } frame;
 
 static int stands(const frame *f, long at, const char *wanted)
@@ -95,6 +116,15 @@ static int group_at(const frame *f, long at)
     for (int g = 0; g < 16; g++)
         if (stands(f, at, groups[g]))
             return g;
+    return -1;
+}
+
+/* The command at a place, or -1: a pair outside the table is none. */
+static int command_at(const frame *f, long at)
+{
+    for (int c = 0; c < 16; c++)
+        if (stands(f, at, commands_of[c]))
+            return c;
     return -1;
 }
 
@@ -147,10 +177,12 @@ static second_verdict read_frame(frame *f)
 {
     second_verdict v = {0, 0};
     while (f->at < f->bits) {
-        if (stands(f, f->at, sync)) {
-            if (f->syncs == 255)
+        int command = command_at(f, f->at);
+        if (command >= 0) {
+            if (f->came == 255)
                 return verdict(10, (uint32_t)f->at);
-            f->syncs = f->syncs + 1;
+            f->commands[f->came] = (uint8_t)command;
+            f->came = f->came + 1;
             f->at = f->at + 10;
         } else {
             v = read_channel(f);
@@ -158,18 +190,19 @@ static second_verdict read_frame(frame *f)
                 return v;
         }
     }
-    if (f->read < f->channels || f->syncs == 0)
-        return verdict(10, (uint32_t)f->bits);
-    return v;
+    for (uint32_t k = 0; k < f->came; k++)
+        if (f->commands[k] == 0 && f->read == f->channels)
+            return v;
+    return verdict(10, (uint32_t)f->bits);
 }
 
 /* The refusals before the first boundary: arguments, lengths, spare bits. */
 static uint32_t madi_asked_wrong(uint32_t channels, uint32_t level, uint32_t bits, const uint8_t *line, size_t line_len,
-                                 size_t words_len)
+                                 size_t words_len, size_t commands_len)
 {
     if ((channels != 56 && channels != 64) || level > 1 || bits > MOST_BITS)
         return 2;
-    if (line_len != (size_t)((bits + 7) / 8) || words_len != channels)
+    if (line_len != (size_t)((bits + 7) / 8) || words_len != channels || commands_len != 255)
         return 1;
     for (long k = (long)bits; k < 8 * (long)line_len; k++)
         if (second_symbol(line, k) == 1)
@@ -178,11 +211,11 @@ static uint32_t madi_asked_wrong(uint32_t channels, uint32_t level, uint32_t bit
 }
 
 second_madi_read_answer second_madi_read(uint32_t channels, uint32_t level, uint32_t bits, const uint8_t *line, size_t line_len,
-                                         uint32_t *words, size_t words_len)
+                                         uint32_t *words, size_t words_len, uint8_t *commands, size_t commands_len)
 {
     second_madi_read_answer r = {0, 0, 0, 0};
     frame f = {.bits = (long)bits, .channels = channels};
-    r.number = madi_asked_wrong(channels, level, bits, line, line_len, words_len);
+    r.number = madi_asked_wrong(channels, level, bits, line, line_len, words_len, commands_len);
     if (r.number != 0)
         return r;
     int now = (int)level;
@@ -197,7 +230,9 @@ second_madi_read_answer second_madi_read(uint32_t channels, uint32_t level, uint
         return r;
     for (uint32_t c = 0; c < channels; c++)
         words[c] = f.words[c];
+    for (uint32_t k = 0; k < 255; k++)
+        commands[k] = k < f.came ? f.commands[k] : 0;
     r.active = f.active;
-    r.syncs = f.syncs;
+    r.commands = f.came;
     return r;
 }

@@ -57,6 +57,13 @@ void spoil_add_bits(spoil_row *r, uint32_t value, int count)
         r->bit[r->bits++] = (uint8_t)(value >> k & 1u);
 }
 
+void spoil_add_command(spoil_row *r, uint32_t command)
+{
+    static const uint32_t table[16] = {0x311, 0x3FF, 0x1AD, 0x1B9, 0x3E4, 0x1A7, 0x327, 0x339,
+                                       0x084, 0x09F, 0x080, 0x0E7, 0x0F9, 0x004, 0x01F, 0x000};
+    spoil_add_bits(r, table[command & 15], 10);
+}
+
 void spoil_add_syncs(spoil_row *r, uint32_t count)
 {
     for (; count > 0; count--)

@@ -20,6 +20,7 @@ enum { SPOIL_MOST = 8000 };
 typedef struct { uint8_t bit[SPOIL_MOST]; uint32_t bits; } spoil_row;
 void spoil_add_bits(spoil_row *r, uint32_t value, int count);   /* the highest first */
 void spoil_add_syncs(spoil_row *r, uint32_t count);
+void spoil_add_command(spoil_row *r, uint32_t command);
 void spoil_add_channel(spoil_row *r, uint32_t word);            /* any 32 bits, bits 0 and 1 as given */
 size_t spoil_pack(const spoil_row *r, uint32_t level, uint8_t *line);   /* after NRZI; the number of octets */
 

@@ -197,22 +197,25 @@ static void hunts(void)
 
 /* ---- MADI */
 
-static void write_frame(uint32_t channels, const uint32_t *words, size_t n, uint32_t syncs, uint32_t level, size_t octets)
+static void write_frame(uint32_t channels, const uint32_t *words, size_t n, size_t commands, uint32_t level, size_t octets)
 {
-    second_verdict v = second_madi_write(channels, words, n, syncs, level, line, octets);
+    static const uint8_t list[256] = {[1] = 1, [2] = 15, [200] = 8};
+    second_verdict v = second_madi_write(channels, words, n, list, commands, level, line, octets);
     printf("frame %u %u %u\n", v.number, v.place, sum_octets(line, octets));
 }
 
 static void read_frame(uint32_t channels, uint32_t level, uint32_t bits, size_t octets)
 {
     uint32_t words[64];
+    uint8_t commands[255];
     for (int k = 0; k < 64; k++)
         words[k] = 7;
-    second_madi_read_answer a = second_madi_read(channels, level, bits, line, octets, words, channels);
+    memset(commands, 9, sizeof commands);
+    second_madi_read_answer a = second_madi_read(channels, level, bits, line, octets, words, channels, commands, 255);
     printf("units %u %u", a.number, a.place);
     if (a.number == 0)
-        printf(" %u %u", a.active, a.syncs);
-    printf(" %u %u\n", words[0], words[channels - 1]);
+        printf(" %u %u", a.active, a.commands);
+    printf(" %u %u %u %u %u\n", words[0], words[channels - 1], commands[1], commands[2], sum_octets(commands, 255));
 }
 
 /* The link coding example of BS.1873, annex: its first 40 symbols. */
@@ -227,7 +230,7 @@ static void annex(void)
     printf("annex %u %u %u %u %u\n", line[0], line[1], line[2], line[3], line[4]);
 }
 
-/* 255 syncs and 256, to write and to read; no word to write; no bits to read. */
+/* 255 commands and 256, to write and to read; no word to write; no bits to read. */
 static void counts(void)
 {
     uint32_t words[64] = {0};

@@ -71,11 +71,11 @@ toldStart a =
     let t = told 0 (a .0) in
     record { number = t .0; place = t .1; position = t .2; compared = a .1 }
 
--- active count and sync count
+-- active count and command count
 abbrev pub toldFrame : Answer (ℕ × ℕ) → ToldFrame
 toldFrame a =
     let t = told (0, 0) a in
-    record { number = t .0; place = t .1; active = t .2 .0; syncs = t .2 .1 }
+    record { number = t .0; place = t .1; active = t .2 .0; commands = t .2 .1 }
 
 -- the fields of a packet
 abbrev pub noFields : Fields

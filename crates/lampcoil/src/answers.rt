@@ -118,17 +118,17 @@ pub fn frame(a: madi_read::ReadAnswer) -> ToldFrame
     ensures { λ r. ⌜ r ≡ toldFrame (frameSaid a) ⌝ }
 {
     match a {
-        madi_read::ReadAnswer::Read { active, syncs } => ToldFrame {
+        madi_read::ReadAnswer::Read { active, commands } => ToldFrame {
             number: 0,
             place: 0,
             active,
-            syncs,
+            commands,
         },
         madi_read::ReadAnswer::Refused { number, place } => ToldFrame {
             number,
             place,
             active: 0,
-            syncs: 0,
+            commands: 0,
         },
     }
 }

@@ -16,7 +16,7 @@ ghost use Rattle.aes3_read.specs.Reader.{readAnswer, crccs};
 ghost use Rattle.aes3_hunt.specs.Hunt.{boundedHunt};
 ghost use Rattle.aes3_hunt.specs.Align.{aligned};
 ghost use Rattle.madi_write.specs.Writer.{frameWritten};
-ghost use Rattle.madi_read.specs.Reader.{frameRead, countsOf, wordsOf};
+ghost use Rattle.madi_read.specs.Reader.{frameRead, countsOf, wordsOf, commandsOf};
 ghost use Rattle.hd_write.specs.Write.{wordsWritten};
 ghost use Rattle.hd_write.specs.Write.{writeAnswer as packetAnswer};
 ghost use Rattle.hd_read.specs.Read.{fieldsRead, bodiesAfter};
@@ -107,7 +107,7 @@ pub struct ToldFrame {
     pub number: u32,
     pub place: u32,
     pub active: u32,
-    pub syncs: u32,
+    pub commands: u32,
 }
 
 #[repr(C)]
@@ -307,22 +307,22 @@ pub extern "C" fn lampcoil_aes3_align(line: &[u8], position: u32, block: &mut [u
 
 // ---- MADI
 
-// A frame of words and syncs onto a line, after a level.
+// A frame of words and commands onto a line, after a level.
 #[no_mangle]
 pub extern "C" fn lampcoil_madi_write(
     channels: u32,
     words: &[u32],
-    syncs: u32,
+    commands: &[u8],
     level: u32,
     line: &mut [u8],
 ) -> Told
-    ensures { λ r. ⌜ r ≡ toldVerdict (verdict (frameWritten channels (now (words .entry)) syncs level (length (now (line .entry))))) ⌝ }
-    ensures { λ _. ⌜ now (line .exit) ≡ rewritten (frameWritten channels (now (words .entry)) syncs level (length (now (line .entry)))) (now (line .entry)) ⌝ }
+    ensures { λ r. ⌜ r ≡ toldVerdict (verdict (frameWritten channels (now (words .entry)) (now (commands .entry)) level (length (now (line .entry))))) ⌝ }
+    ensures { λ _. ⌜ now (line .exit) ≡ rewritten (frameWritten channels (now (words .entry)) (now (commands .entry)) level (length (now (line .entry)))) (now (line .entry)) ⌝ }
 {
-    answers::verdict(madi_write::write_frame(channels, words, syncs, level, line))
+    answers::verdict(madi_write::write_frame(channels, words, commands, level, line))
 }
 
-// The words of a frame, its active count and its sync count.
+// The words of a frame and its commands, and how many of each.
 #[no_mangle]
 pub extern "C" fn lampcoil_madi_read(
     channels: u32,
@@ -330,11 +330,13 @@ pub extern "C" fn lampcoil_madi_read(
     bits: u32,
     line: &[u8],
     words: &mut [u32],
+    commands: &mut [u8],
 ) -> ToldFrame
-    ensures { λ r. ⌜ r ≡ toldFrame (mapped countsOf (frameRead channels level bits (now (line .entry)) (length (now (words .entry))))) ⌝ }
-    ensures { λ _. ⌜ now (words .exit) ≡ after wordsOf (frameRead channels level bits (now (line .entry)) (length (now (words .entry)))) (now (words .entry)) ⌝ }
+    ensures { λ r. ⌜ r ≡ toldFrame (mapped countsOf (frameRead channels level bits (now (line .entry)) (length (now (words .entry))) (length (now (commands .entry))))) ⌝ }
+    ensures { λ _. ⌜ now (words .exit) ≡ after wordsOf (frameRead channels level bits (now (line .entry)) (length (now (words .entry))) (length (now (commands .entry)))) (now (words .entry)) ⌝ }
+    ensures { λ _. ⌜ now (commands .exit) ≡ after commandsOf (frameRead channels level bits (now (line .entry)) (length (now (words .entry))) (length (now (commands .entry)))) (now (commands .entry)) ⌝ }
 {
-    answers::frame(madi_read::read_frame(channels, level, bits, line, words))
+    answers::frame(madi_read::read_frame(channels, level, bits, line, words, commands))
 }
 
 // ---- HD audio data packets

@@ -1,8 +1,9 @@
 pub mod Sending
+pub mod UnitLaws
+pub mod Reading
+pub mod ExactReading
 pub mod ReadWritten
-pub mod Standing
-pub mod CountsStood
-pub mod LastSyncs
+pub mod LastCommands
 pub mod Words
 pub mod WriteBack
 pub mod Patched

@@ -1,6 +1,7 @@
 -- A patched frame is taken by the writer of a frame, and the reader gives it back; one proof for both channel counts.
 -- Assumes nothing.
-use mathlib.Core.Path.{_≡_, refl, sym, ap, ap₂, _∙_}
+use mathlib.Core.Path.{_≡_, sym, ap, _∙_}
+use mathlib.Core.Bool.{true}
 use mathlib.Core.Logic.{⊎-elim}
 use mathlib.Core.List.{List, _++_}
 use Prim.Native.Nat.{ℕ, _+_, _-_, _^_, _≤_, _<_}
@@ -11,13 +12,12 @@ use lib.Seq.{ext-getD, getD-take, length-take-le, getD-append-add}
 use Rattle.bits.specs.Row.{Below}
 use Rattle.bits.proofs.Tests.{order}
 use Rattle.bits.proofs.Bounds.{below-take}
-use Rattle.answer.specs.Answer.{Answer.accepted}
+use Rattle.answer.specs.Answer.{Answer.accepted, mapped, verdict, after, rewritten}
 use Rattle.answer.specs.Demand.{_&_}
 use Rattle.madi_code.specs.Frame.{boundary}
-use Rattle.madi_write.specs.Writer.{needed, frameOctets, frameWritten}
+use Rattle.madi_write.specs.Writer.{needed, frameOctets, isList, frameWritten}
 use Rattle.madi_write.proofs.Checks.{sound-met, frame-accepted}
-use Rattle.madi_read.specs.Reader.{frameRead}
-use Rattle.madi_read.specs.Inner.{sofar}
+use Rattle.madi_read.specs.Reader.{frameRead, countsOf, wordsOf}
 use Rattle.madi_patch.specs.Slot.{Panel, verdictOctet}
 use Rattle.madi_patch.specs.Patch.{Patched, patchAnswer, frameAfter}
 use Rattle.madi_patch.specs.Leased.{leasedPanel, leasedAnswer, leasedFrame}
@@ -25,8 +25,7 @@ use Rattle.madi_patch.proofs.LeasedLaws.{by-two, frame-by-two}
 use Rattle.madi_patch.proofs.SlotLaws.{none-out, not-carried-is-silent, word-cases}
 use Rattle.madi_patch.proofs.PatchLaws.{accepted-counted, accepted-some, accepted-within, word-at, length-out, active-words-pass}
 use Rattle.madi.specs.Units.{padded}
-use Rattle.madi.proofs.Sending.{length-padded}
-use Rattle.madi.proofs.ReadWritten.{read-written}
+use Rattle.madi.proofs.ReadWritten.{read-counts, read-words}
 
 module _ (channels : ℕ) (p : Panel) (old-frame old-verdicts : List ℕ) (made : Patched)
     (accepts : patchAnswer channels p (length old-frame) (length old-verdicts) ≡ accepted made) where
@@ -75,45 +74,71 @@ module _ (channels : ℕ) (p : Panel) (old-frame old-verdicts : List ℕ) (made 
       (word-cases p i (λ w. w < 2 ^ 32) (λ c. omega (arith, below (getD (p .rows) i 0))) (omega arith)))
       (order channels i)
 
-  -- ---- the promise: with any sync count, level and room that the writer takes
+  -- ---- the promise: with every list of commands, level and room that the writer takes
 
-  module _ (syncs level room : ℕ) (some : 1 ≤ syncs) (most : syncs ≤ 255) (digital : level ≤ 1) (fits : needed channels syncs ≤ room) where
-    pub writer-takes-the-patched : frameWritten channels (take (p .active) (frameAfter channels p old-frame old-verdicts)) syncs level room
-        ≡ accepted (frameOctets channels (take (p .active) (frameAfter channels p old-frame old-verdicts)) syncs level)
+  module _ (commands : List ℕ) (level : ℕ) (old-line : List ℕ) (list : isList commands ≡ true) (digital : level ≤ 1)
+      (fits : needed channels (length commands) ≤ length old-line) where
+    pub writer-takes-the-patched : frameWritten channels (take (p .active) (frameAfter channels p old-frame old-verdicts)) commands level (length old-line)
+        ≡ accepted (frameOctets channels (take (p .active) (frameAfter channels p old-frame old-verdicts)) commands level)
     writer-takes-the-patched =
-        frame-accepted channels sent syncs level room
+        frame-accepted channels sent commands level (length old-line)
         (accepted-counted channels p old-frame old-verdicts made accepts
         & le-leb 1 (length sent) (omega (arith, sent-long, accepted-some channels p old-frame old-verdicts made accepts))
-        & le-leb (length sent) channels (omega (arith, sent-long, within)) & le-leb 1 syncs some & le-leb syncs 255 most & le-leb level 1 digital
-        & le-leb (needed channels syncs) room fits & sound-met sent (active-words-pass channels p old-frame old-verdicts made accepts))
+        & le-leb (length sent) channels (omega (arith, sent-long, within)) & list & le-leb level 1 digital
+        & le-leb (needed channels (length commands)) (length old-line) fits
+        & sound-met sent (active-words-pass channels p old-frame old-verdicts made accepts))
 
-    -- the active count, the syncs, and every word of the patched frame
-    pub reader-gives-the-patched : Below (2 ^ 32) (p .frame)
-        → frameRead channels level (boundary channels syncs)
-        (frameOctets channels (take (p .active) (frameAfter channels p old-frame old-verdicts)) syncs level) channels
-        ≡ accepted (sofar channels (p .active) syncs (frameAfter channels p old-frame old-verdicts))
-    reader-gives-the-patched below =
-        read-written channels sent syncs level room (frameOctets channels sent syncs level) (below-take (2 ^ 32) (p .active) out (small below))
-        writer-takes-the-patched
-        ∙ ap₂ (λ (a : ℕ) (l : List ℕ). accepted (sofar channels a syncs l)) sent-long all-of-it
+    takes : verdict (frameWritten channels sent commands level (length old-line)) ≡ accepted tt
+    takes = ap verdict writer-takes-the-patched
+
+    -- the octets needed, of the buffer that the writer leaves
+    abbrev pub line-out : List ℕ
+    line-out =
+        take (needed channels (length commands))
+        (rewritten (frameWritten channels (take (p .active) (frameAfter channels p old-frame old-verdicts)) commands level (length old-line)) old-line)
+
+    -- of them the reader says the active count and the number of commands
+    pub reader-counts-the-patched : Below (2 ^ 32) (p .frame)
+        → mapped countsOf (frameRead channels level (boundary channels (length commands)) line-out channels 255) ≡ accepted (p .active, length commands)
+    reader-counts-the-patched below =
+        read-counts channels sent commands level old-line (below-take (2 ^ 32) (p .active) out (small below)) takes
+        ∙ ap (λ (a : ℕ). accepted (a, length commands)) sent-long
+
+    -- and leaves the whole patched frame
+    pub reader-gives-the-patched : Below (2 ^ 32) (p .frame) → (buffer : List ℕ) → length buffer ≡ channels
+        → after wordsOf (frameRead channels level (boundary channels (length commands)) line-out (length buffer) 255) buffer
+        ≡ frameAfter channels p old-frame old-verdicts
+    reader-gives-the-patched below buffer h =
+        read-words channels sent commands level old-line (below-take (2 ^ 32) (p .active) out (small below)) takes buffer h ∙ all-of-it
 
 -- ---- the same of the frame that the patch by the lease table leaves
 
 module _ (channels active : ℕ) (leases rows frame old-frame old-verdicts : List ℕ) (made : Patched)
-    (accepts : leasedAnswer channels active leases rows frame (length old-frame) (length old-verdicts) ≡ accepted made) (syncs level room : ℕ)
-    (some : 1 ≤ syncs) (most : syncs ≤ 255) (digital : level ≤ 1) (fits : needed channels syncs ≤ room) where
-  pub writer-takes-the-leased : frameWritten channels (take active (leasedFrame channels active leases rows frame old-frame old-verdicts)) syncs level room
-      ≡ accepted (frameOctets channels (take active (leasedFrame channels active leases rows frame old-frame old-verdicts)) syncs level)
+    (accepts : leasedAnswer channels active leases rows frame (length old-frame) (length old-verdicts) ≡ accepted made) (commands : List ℕ)
+    (level : ℕ) (old-line : List ℕ) (list : isList commands ≡ true) (digital : level ≤ 1) (fits : needed channels (length commands) ≤ length old-line) where
+  pub writer-takes-the-leased : frameWritten channels (take active (leasedFrame channels active leases rows frame old-frame old-verdicts)) commands level (length old-line)
+      ≡ accepted (frameOctets channels (take active (leasedFrame channels active leases rows frame old-frame old-verdicts)) commands level)
   writer-takes-the-leased =
       rw (frame-by-two channels active leases rows frame old-frame old-verdicts made accepts)
       (writer-takes-the-patched channels (leasedPanel channels active leases rows frame) old-frame old-verdicts made
-      (by-two channels active leases rows frame old-frame old-verdicts made accepts) syncs level room some most digital fits)
+      (by-two channels active leases rows frame old-frame old-verdicts made accepts) commands level old-line list digital fits)
 
-  pub reader-gives-the-leased : Below (2 ^ 32) frame
-      → frameRead channels level (boundary channels syncs)
-      (frameOctets channels (take active (leasedFrame channels active leases rows frame old-frame old-verdicts)) syncs level) channels
-      ≡ accepted (sofar channels active syncs (leasedFrame channels active leases rows frame old-frame old-verdicts))
-  reader-gives-the-leased below =
+  abbrev pub leased-line : List ℕ
+  leased-line =
+      take (needed channels (length commands))
+      (rewritten (frameWritten channels (take active (leasedFrame channels active leases rows frame old-frame old-verdicts)) commands level (length old-line)) old-line)
+
+  pub reader-counts-the-leased : Below (2 ^ 32) frame
+      → mapped countsOf (frameRead channels level (boundary channels (length commands)) leased-line channels 255) ≡ accepted (active, length commands)
+  reader-counts-the-leased below =
+      rw (frame-by-two channels active leases rows frame old-frame old-verdicts made accepts)
+      (reader-counts-the-patched channels (leasedPanel channels active leases rows frame) old-frame old-verdicts made
+      (by-two channels active leases rows frame old-frame old-verdicts made accepts) commands level old-line list digital fits below)
+
+  pub reader-gives-the-leased : Below (2 ^ 32) frame → (buffer : List ℕ) → length buffer ≡ channels
+      → after wordsOf (frameRead channels level (boundary channels (length commands)) leased-line (length buffer) 255) buffer
+      ≡ leasedFrame channels active leases rows frame old-frame old-verdicts
+  reader-gives-the-leased below buffer h =
       rw (frame-by-two channels active leases rows frame old-frame old-verdicts made accepts)
       (reader-gives-the-patched channels (leasedPanel channels active leases rows frame) old-frame old-verdicts made
-      (by-two channels active leases rows frame old-frame old-verdicts made accepts) syncs level room some most digital fits below)
+      (by-two channels active leases rows frame old-frame old-verdicts made accepts) commands level old-line list digital fits below buffer h)

@@ -1,136 +1,226 @@
--- What the writer accepts the reader accepts, with the same words, active count and sync count; one proof for both
--- channel counts. Assumes nothing.
-use mathlib.Core.Path.{_≡_, refl, sym, ap, ap₂, _∙_}
+-- What the writer accepts the reader accepts: of the buffer that the writer leaves, whatever room it had, the reader
+-- gives the same words, active count and commands in their order; one proof for both channel counts. Assumes nothing.
+use mathlib.Core.Path.{_≡_, refl, sym, ap, ap₂, subst, _∙_}
 use mathlib.Core.Bool.{true}
-use mathlib.Core.List.{List, [], _∷_, _++_}
-use Prim.Native.Nat.{ℕ, zero, suc, _+_, _*_, _-_, _%_, _^_, _≤_, _<_, min}
+use mathlib.Core.List.{List, [], _∷_, _++_, map, append-assoc}
+use Prim.Native.Nat.{ℕ, zero, suc, _+_, _/_, _%_, _^_, _≤_, _<_, min}
 use native.Mathlib.Numerals.{add-one}
 use native.Mathlib.Omega.{arith}
-use borrow.Author.Tests.{le-leb, eq-eqb}
-use lib.ListN.{length, getD, take}
-use lib.Seq.{take-suc, take-length}
-use Rattle.bits.specs.Row.{Row, odd, big, Below}
-use Rattle.bits.specs.Window.{part, window}
-use Rattle.bits.specs.Pack.{octets, symbols}
+use lib.ListN.{length, getD, take, drop, drop-of-length-le, length-map, List·getD-map}
+use lib.Seq.{drop-cons, take-at, ext-getD}
+use Rattle.bits.specs.Row.{Row, odd, bit, count, big, Below}
+use Rattle.bits.specs.Pack.{chain, octets}
+use Rattle.bits.specs.Cross.{across}
+use Rattle.bits.proofs.Digits.{digit-odd}
 use Rattle.bits.proofs.Packing.{length-pack}
-use Rattle.answer.specs.Answer.{Answer.accepted}
-use Rattle.answer.specs.Demand.{_&_}
+use Rattle.answer.specs.Answer.{Answer, Answer.accepted, Answer.refused, mapped, verdict, after, rewritten}
+use Rattle.answer.proofs.Chains.{not-both}
+use Rattle.answer.proofs.Residues.{whole}
 use Rattle.subframe.specs.Body.{evenBody}
 use Rattle.line.specs.Nrzi.{levels}
-use Rattle.madi_code.specs.Groups.{sync}
-use Rattle.madi_code.specs.Channels.{channelRow, channelOf}
-use Rattle.madi_code.specs.Frame.{boundary}
-use Rattle.madi_code.specs.declared.ChannelBits.the-variants.{Word}
-use Rattle.madi_code.proofs.ChannelLaws.{channel-back}
-use Rattle.madi_read.specs.Reader.{carried, Frame, pieceAt, readOn, rowRead, frameRead}
-use Rattle.madi_read.specs.Inner.{sofar}
-use Rattle.madi_read.specs.declared.Piece.the-variants.{End, Sync, Channel}
-use Rattle.madi_read.proofs.Lines.{line-carries, line-spare}
-use Rattle.madi_read.proofs.Walking.{read-step, from-start}
-use Rattle.madi_read.proofs.Onward.{piece-channel, piece-sync, piece-end}
-use Rattle.madi_read.proofs.Accepting.{demands-met}
-use Rattle.madi_write.specs.Writer.{frameRow, needed, frameWritten}
+use Rattle.madi_code.specs.Frame.{boundary, numbered, synced}
+use Rattle.madi_code.specs.Groups.{commandRow}
+use Rattle.madi_code.specs.Channels.{channelRow}
+use Rattle.madi_read.specs.Reader.{Frame, atStart, cleared, frameRead, countsOf, wordsOf, listOf, commandsOf}
+use Rattle.madi_read.proofs.Copying.{length-list}
+use Rattle.madi_write.specs.Writer.{channelWords, needed, frameOctets, frameWritten}
 use Rattle.madi_write.specs.Inner.{sentWord}
-use Rattle.madi_write.proofs.Frames.{word-at, length-frame, frame-channel, frame-sync, frame-octets}
-use Rattle.madi_write.proofs.Checks.{accepted-frame}
-use Rattle.madi.specs.Units.{padded}
-use Rattle.madi.proofs.Sending.{sent-small, sent-bit, channel-right, padded-at, length-padded}
+use Rattle.madi_write.proofs.Frames.{length-words, word-at, frame-row, frame-octets}
+use Rattle.madi_write.proofs.Checks.{Writable, accepted-frame}
+use Rattle.madi.specs.Units.{Part, unitsRow, channelsIn, commandsIn, withUnits, Placed, Lawful, padded}
+use Rattle.madi.specs.Units.Part.{channel, command}
+use Rattle.madi.proofs.Sending.{sent-small, sent-bit, first-ok, active-ok, even-ok, padded-at, length-padded}
+use Rattle.madi.proofs.UnitLaws.{units-length, units-words, units-commands, units-active}
+use Rattle.madi.proofs.ExactReading.{lineOf, lawful-accepted}
 
-module _ (channels : ℕ) (words : List ℕ) (syncs : ℕ) (even : (i : ℕ) → i < length words → evenBody (getD words i 0) ≡ true)
-    (clean : (k : ℕ) → getD words k 0 % 4 ≡ 0) (small : Below (2 ^ 32) words) (some : 1 ≤ length words) (most : length words ≤ channels)
-    (synced : 1 ≤ syncs) (short : syncs ≤ 255) where
-  row : Row
-  row = frameRow channels words syncs
+-- ---- channels and then commands, as units
 
-  long : length row ≡ 40 * channels + 10 * syncs
-  unfolding row
-  long = length-frame channels words syncs most
+abbrev pub laid : List ℕ → List ℕ → List Part
+laid ws cs = map channel ws ++ map command cs
 
-  word-there : (n : ℕ) → n < channels → channelOf (part row (40 * n + 10 * 0) 40) ≡ Word (sentWord words n)
-  unfolding row
-  word-there n h =
-      let p : 40 * n + 10 * 0 ≡ 40 * n = omega arith in
-      ap channelOf (ap (λ (q : ℕ). part row q 40) p ∙ frame-channel channels words syncs most n h ∙ ap channelRow (word-at channels words n h))
-      ∙ channel-back (sentWord words n) (sent-small words even clean small n)
+row-commands : (cs : List ℕ) → unitsRow (map command cs) ≡ chain commandRow cs
+unfolding unitsRow chain
+row-commands [] = refl
+row-commands (c ∷ cs) = ap (λ (x : Row). commandRow c ++ x) (row-commands cs)
 
-  channel-there : (n : ℕ) (ws : List ℕ) → n < channels → pieceAt row channels (sofar n (min n (length words)) 0 ws) ≡ Channel (sentWord words n)
-  channel-there n ws h =
-      piece-channel row channels (sofar n (min n (length words)) 0 ws) (sentWord words n) h (omega (arith, long)) (word-there n h)
-      (channel-right words even clean small n some)
+row-laid : (ws cs : List ℕ) → unitsRow (laid ws cs) ≡ chain channelRow ws ++ chain commandRow cs
+unfolding unitsRow chain
+row-laid [] cs = row-commands cs
+row-laid (w ∷ ws) cs =
+    ap (λ (x : Row). channelRow w ++ x) (row-laid ws cs) ∙ sym (append-assoc (channelRow w) (chain channelRow ws) (chain commandRow cs))
 
-  sync-there : (s : ℕ) (ws : List ℕ) → s < syncs → pieceAt row channels (sofar channels (length words) s ws) ≡ Sync
-  unfolding row
-  sync-there s ws h =
-      piece-sync row channels (sofar channels (length words) s ws) (omega arith) (omega (arith, long)) (frame-sync channels words syncs most s h)
+channels-laid : (ws cs : List ℕ) → channelsIn (laid ws cs) ≡ ws
+unfolding channelsIn
+channels-laid [] [] = refl
+channels-laid [] (c ∷ cs) = channels-laid [] cs
+channels-laid (w ∷ ws) cs = ap (λ (x : List ℕ). w ∷ x) (channels-laid ws cs)
 
-  -- n channels so far, of those that the words stand for
-  abbrev so-many : ℕ → Frame
-  so-many n = sofar n (min n (length words)) 0 (take n (padded channels words))
+commands-laid : (ws cs : List ℕ) → commandsIn (laid ws cs) ≡ cs
+unfolding commandsIn
+commands-laid [] [] = refl
+commands-laid [] (c ∷ cs) = ap (λ (x : List ℕ). c ∷ x) (commands-laid [] cs)
+commands-laid (w ∷ ws) cs = commands-laid ws cs
 
-  -- all of them, and s syncs
-  abbrev with-syncs : ℕ → Frame
-  with-syncs s = sofar channels (length words) s (padded channels words)
+-- ---- what the writer sends is a frame
 
-  read-channels : (k n : ℕ) → n + k ≡ channels
-      → readOn row channels (channels + 256 - (n + 0)) (so-many n) ≡ readOn row channels (channels + 256 - (channels + 0)) (with-syncs 0)
-  read-channels zero n e =
-      let m : min n (length words) ≡ length words = omega arith in
-      let z : n ≡ channels = omega arith in
-      let l : n ≡ length (padded channels words) = z ∙ sym (length-padded channels words most) in
-      ap₂ (λ (x : ℕ) (y : List ℕ). readOn row channels (channels + 256 - (n + 0)) (sofar n x 0 y)) m
-      (ap (λ (i : ℕ). take i (padded channels words)) l ∙ take-length (padded channels words))
-      ∙ ap (λ (i : ℕ). readOn row channels (channels + 256 - (i + 0)) (sofar i (length words) 0 (padded channels words))) z
-  read-channels (suc k) n e =
-      let h : n < channels = omega arith in
-      let lt : n < length (padded channels words) = omega (arith, length-padded channels words most) in
-      let fuel : channels + 256 - (n + 0 + 1) ≡ channels + 256 - (n + 1 + 0) = omega arith in
-      read-step row channels (so-many n) (omega arith) (omega arith) (Channel (sentWord words n)) (channel-there n (take n (padded channels words)) h)
-      ∙ ap₂ (λ (x : ℕ) (y : List ℕ). readOn row channels (channels + 256 - (n + 0 + 1)) (sofar (n + 1) x 0 y)) (sent-bit words even clean small n)
-      (ap (λ (v : ℕ). take n (padded channels words) ++ (v ∷ [])) (sym (padded-at words even clean small channels n h))
-      ∙ sym (take-suc (padded channels words) n 0 lt) ∙ ap (λ (i : ℕ). take i (padded channels words)) (sym (add-one n)))
-      ∙ ap (λ (x : ℕ). readOn row channels x (so-many (n + 1))) fuel ∙ read-channels k (n + 1) (omega arith)
+module _ (channels : ℕ) (words commands : List ℕ) (level room : ℕ) (w : Writable channels words commands level room) (small : Below (2 ^ 32) words) where
+  ws : List ℕ
+  ws = channelWords channels words
 
-  read-syncs : (k s : ℕ) → s + k ≡ syncs → readOn row channels (channels + 256 - (channels + s)) (with-syncs s) ≡ accepted (with-syncs syncs)
-  read-syncs zero s e =
-      let z : s ≡ syncs = omega arith in
-      read-step row channels (with-syncs s) (omega arith) (omega arith) End (piece-end row channels (with-syncs s) (omega (arith, long)) refl (omega arith))
-      ∙ ap (λ (x : ℕ). accepted (with-syncs x)) z
-  read-syncs (suc k) s e =
-      let fuel : channels + 256 - (channels + s + 1) ≡ channels + 256 - (channels + (s + 1)) = omega arith in
-      read-step row channels (with-syncs s) (omega arith) (omega arith) Sync (sync-there s (padded channels words) (omega arith))
-      ∙ ap (λ (x : ℕ). readOn row channels x (with-syncs (s + 1))) fuel ∙ read-syncs k (s + 1) (omega arith)
+  long : length ws ≡ channels
+  unfolding ws
+  long = length-words channels words (w .most)
 
-  pub row-read : rowRead (frameRow channels words syncs) channels ≡ accepted (with-syncs syncs)
-  unfolding row
-  row-read =
-      let m : 0 ≡ min 0 (length words) = omega arith in
-      from-start row channels ∙ ap (λ (x : ℕ). readOn row channels (channels + 256 - (0 + 0)) (sofar 0 x 0 [])) m
-      ∙ read-channels channels 0 (omega arith) ∙ read-syncs syncs 0 (omega arith)
+  -- the channels from n on stand in their places, and so many of them are active
+  in-place : (k n : ℕ) → n + k ≡ channels
+      → Placed n (min n (length words)) (drop n ws) × (min n (length words) + count (across 1 (drop n ws)) ≡ length words)
+  unfolding Placed across count ws
+  in-place zero n e =
+      let m : min n (length words) + 0 ≡ length words = omega (arith, w .most) in
+      subst (λ (l : List ℕ). Placed n (min n (length words)) l × (min n (length words) + count (across 1 l) ≡ length words))
+      (sym (drop-of-length-le ws {i = n} (omega (arith, long)))) (tt, m)
+  in-place (suc k) n e =
+      let v : ℕ = sentWord words n in
+      let next = in-place k (n + 1) (omega arith) in
+      let grows = sent-bit words (w .even) (w .clean) small n in
+      let here : drop n ws ≡ v ∷ drop (n + 1) ws =
+      drop-cons ws n 0 (omega (arith, long)) ∙ ap₂ (λ (x : ℕ) (j : ℕ). x ∷ drop j ws) (word n (omega arith)) (sym (add-one n)) in
+      subst (λ (l : List ℕ). Placed n (min n (length words)) l × (min n (length words) + count (across 1 l) ≡ length words)) (sym here) (
+        (
+          first-ok words (w .even) (w .clean) small n (w .some),
+          active-ok words (w .even) (w .clean) small n,
+          even-ok words (w .even) (w .clean) small n,
+          sent-small words (w .even) (w .clean) small n,
+          subst (λ (m : ℕ). Placed (n + 1) m (drop (n + 1) ws)) (sym grows) (next .0),
+        ),
+        omega (arith, next .1, grows, digit-odd (v / 2)),
+      )
+    where
+      word : (n : ℕ) → n < channels → getD ws n 0 ≡ sentWord words n
+      word n h = word-at channels words n h
+
+  pub us : List Part
+  us = laid ws commands
+
+  pub lawful : Lawful channels us
+  unfolding us
+  lawful =
+      let m : min 0 (length words) ≡ 0 = omega arith in
+      let p : Placed 0 0 ws = subst (λ (k : ℕ). Placed 0 k ws) m (in-place channels 0 (omega arith) .0) in
+      record {
+        all = ap length (channels-laid ws commands) ∙ long;
+        placed = subst (Placed 0 0) (sym (channels-laid ws commands)) p;
+        few = omega (arith, ap length (commands-laid ws commands), w .short);
+        named = ap numbered (commands-laid ws commands) ∙ w .named;
+        with-sync = ap synced (commands-laid ws commands) ∙ w .with-sync;
+      }
+
+  active : count (across 1 ws) ≡ length words
+  active = omega (arith, in-place channels 0 (omega arith) .1)
+
+  -- with bits 0 and 1 cleared they are the given words, and zeros
+  words-back : map cleared ws ≡ padded channels words
+  unfolding ws
+  words-back =
+      ext-getD 0 (map cleared ws) (padded channels words)
+      (length-map ws cleared ∙ long ∙ sym (length-padded channels words (w .most)))
+      (λ n h. let l : n < channels = omega (arith, length-map ws cleared, long) in
+      List·getD-map cleared ws n 0 ∙ ap cleared (word-at channels words n l) ∙ sym (padded-at words (w .even) (w .clean) small channels n l))
+
+  pub bits-sent : length (unitsRow us) ≡ boundary channels (length commands)
+  unfolding us
+  bits-sent = units-length us ∙ ap₂ boundary (lawful .all) (ap length (commands-laid ws commands))
+
+  pub line-sent : lineOf level us ≡ frameOctets channels words commands level
+  unfolding us ws
+  line-sent =
+      ap (λ (n : ℕ). octets ((n + 7) / 8) (levels (odd level) (unitsRow us))) bits-sent
+      ∙ ap (λ (r : Row). octets (needed channels (length commands)) (levels (odd level) r)) (row-laid ws commands ∙ sym (frame-row channels words commands))
+      ∙ sym (frame-octets channels words commands level)
+
+  -- what they give
+  abbrev given : Frame
+  given = withUnits us atStart
+
+  pub given-words : given .words ≡ padded channels words
+  unfolding us
+  given-words = units-words us atStart ∙ ap (map cleared) (channels-laid ws commands) ∙ words-back
+
+  pub given-commands : given .commands ≡ commands
+  unfolding us
+  given-commands = units-commands us atStart ∙ commands-laid ws commands
+
+  pub given-active : given .active ≡ length words
+  unfolding us
+  given-active = omega (arith, units-active us atStart, ap (λ (l : List ℕ). count (across 1 l)) (channels-laid ws commands), active)
 
 -- ---- the promise
 
-module _ (channels : ℕ) (words : List ℕ) (syncs level room : ℕ) (line : List ℕ) (small : Below (2 ^ 32) words)
-    (accepts : frameWritten channels words syncs level room ≡ accepted line) where
-  -- the reader, given the octets that the writer leaves, their length in bits and the level, answers with the counts
-  -- and the words
-  pub read-written : frameRead channels level (boundary channels syncs) line channels
-      ≡ accepted (sofar channels (length words) syncs (padded channels words))
-  read-written =
-      let p = accepted-frame channels words syncs level room line accepts in
-      let w = p .0 in
-      let b = boundary channels syncs in
-      let n = needed channels syncs in
-      let sent : Row = frameRow channels words syncs in
-      let is : octets n (levels (odd level) sent) ≡ line = sym (frame-octets channels words syncs level) ∙ p .1 in
-      let long′ : length sent ≡ b = length-frame channels words syncs (w .most) in
-      let length-line : length line ≡ n = ap length (sym is) ∙ length-pack big 8 n (levels (odd level) sent) in
-      let spare : window (symbols line) b (length line * 8 - b) ≡ 0 =
-      ap₂ (λ (l : List ℕ) (at : ℕ). window (symbols l) at (length line * 8 - b)) (sym is) (sym long′)
-      ∙ line-spare level sent n (omega arith) (length line * 8 - b) (omega arith) in
-      let carries : carried level b line ≡ sent =
-      ap₂ (λ (l : List ℕ) (k : ℕ). carried level k l) (sym is) (sym long′) ∙ line-carries level sent n (omega arith) in
-      demands-met channels level b line channels
-      (w .counts & le-leb level 1 (w .digital) & le-leb b 5110 (omega (arith, w .at-most, w .short)) & eq-eqb (length line) n length-line & eq-eqb channels channels refl
-      & eq-eqb (window (symbols line) b (length line * 8 - b)) 0 spare & tt)
-      ∙ ap (λ (r : Row). rowRead r channels) carries
-      ∙ row-read channels words syncs (w .even) (w .clean) small (w .some) (w .most) (w .synced) (w .short)
+written : (a : Answer (List ℕ)) → verdict a ≡ accepted tt → (l : List ℕ) × (a ≡ accepted l)
+written (accepted l) e = (l, refl)
+written (refused n p) e = not-both e
+
+module _ (channels : ℕ) (words commands : List ℕ) (level : ℕ) (old : List ℕ) (small : Below (2 ^ 32) words)
+    (accepts : verdict (frameWritten channels words commands level (length old)) ≡ accepted tt) where
+  -- the octets needed, of the buffer that the writer leaves
+  abbrev pub sent : List ℕ
+  sent = take (needed channels (length commands)) (rewritten (frameWritten channels words commands level (length old)) old)
+
+  -- and the bits
+  abbrev pub bits : ℕ
+  bits = boundary channels (length commands)
+
+  line : List ℕ
+  line = written (frameWritten channels words commands level (length old)) accepts .0
+
+  took : frameWritten channels words commands level (length old) ≡ accepted line
+  unfolding line
+  took = written (frameWritten channels words commands level (length old)) accepts .1
+
+  may : Writable channels words commands level (length old)
+  may = accepted-frame channels words commands level (length old) line took .0
+
+  units : List Part
+  units = us channels words commands level (length old) may small
+
+  sent-line : sent ≡ lineOf level units
+  unfolding units
+  sent-line =
+      let is : frameOctets channels words commands level ≡ line = accepted-frame channels words commands level (length old) line took .1 in
+      let l : length line ≡ needed channels (length commands) =
+      ap length (sym is ∙ frame-octets channels words commands level) ∙ length-pack big 8 (needed channels (length commands)) _ in
+      ap (λ (a : Answer (List ℕ)). take (needed channels (length commands)) (rewritten a old)) took
+      ∙ take-at line (drop (length line) old) (needed channels (length commands)) l
+      ∙ sym (line-sent channels words commands level (length old) may small ∙ is)
+
+  reads : frameRead channels level bits sent channels 255 ≡ accepted (withUnits units atStart)
+  unfolding units
+  reads =
+      ap₂ (λ (l : List ℕ) (b : ℕ). frameRead channels level b l channels 255) sent-line (sym (bits-sent channels words commands level (length old) may small))
+      ∙ lawful-accepted channels level units (may .counts) (may .digital) (lawful channels words commands level (length old) may small)
+
+  -- the reader, given those octets and bits and the level, answers with the counts
+  pub read-counts : mapped countsOf (frameRead channels level bits sent channels 255) ≡ accepted (length words, length commands)
+  unfolding units
+  read-counts =
+      ap (mapped countsOf) reads
+      ∙ ap₂ (λ (n s : ℕ). accepted (n, s)) (given-active channels words commands level (length old) may small)
+      (ap length (given-commands channels words commands level (length old) may small))
+
+  -- and leaves every word of the frame in a buffer as long as the channel count, zeros for the inactive ones
+  pub read-words : (buffer : List ℕ) → length buffer ≡ channels
+      → after wordsOf (frameRead channels level bits sent (length buffer) 255) buffer ≡ padded channels words
+  unfolding units
+  read-words buffer h =
+      let same = given-words channels words commands level (length old) may small in
+      ap (λ (n : ℕ). after wordsOf (frameRead channels level bits sent n 255) buffer) h ∙ ap (λ (a : Answer Frame). after wordsOf a buffer) reads
+      ∙ whole wordsOf (withUnits units atStart) buffer (ap length same ∙ length-padded channels words (may .most) ∙ sym h) ∙ same
+
+  -- and the commands in their order in a list of 255, zeros after them
+  pub read-commands : (list : List ℕ) → length list ≡ 255
+      → after commandsOf (frameRead channels level bits sent channels (length list)) list ≡ listOf commands
+  unfolding units
+  read-commands list h =
+      let same = ap listOf (given-commands channels words commands level (length old) may small) in
+      ap (λ (n : ℕ). after commandsOf (frameRead channels level bits sent channels n) list) h ∙ ap (λ (a : Answer Frame). after commandsOf a list) reads
+      ∙ whole commandsOf (withUnits units atStart) list (ap length same ∙ length-list commands (may .short) ∙ sym h) ∙ same

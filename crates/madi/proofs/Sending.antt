@@ -14,8 +14,7 @@ use Rattle.bits.specs.Pick.{pick}
 use Rattle.bits.specs.Row.{bit, Below}
 use Rattle.subframe.specs.Body.{evenBody}
 use Rattle.subframe.proofs.BodyLaws.{parity-above, parity-zero}
-use Rattle.madi_read.specs.Reader.{firstRight, activeRight, channelPiece, cleared}
-use Rattle.madi_read.specs.declared.Piece.the-variants.{Channel}
+use Rattle.madi_read.specs.Reader.{firstRight, activeRight, cleared}
 use Rattle.madi_write.specs.Inner.{sentWord}
 use Rattle.madi_write.proofs.Frames.{sent-active, sent-idle}
 use Rattle.madi.specs.Units.{padded}
@@ -52,7 +51,7 @@ module _ (words : List ℕ) (even : (i : ℕ) → i < length words → evenBody 
       go (yes h) = omega (arith, sent-active words n h, marks n .1, marks n .2, clean n)
       go (no h) = omega (arith, sent-idle words n (omega arith))
 
-  first-ok : (n : ℕ) → 1 ≤ length words → firstRight n (sentWord words n) ≡ true
+  pub first-ok : (n : ℕ) → 1 ≤ length words → firstRight n (sentWord words n) ≡ true
   first-ok n some = go (decLt n (length words))
     where
       go : Dec (n < length words) → firstRight n (sentWord words n) ≡ true
@@ -63,7 +62,7 @@ module _ (words : List ℕ) (even : (i : ℕ) → i < length words → evenBody 
           let none : _≡_ {A = ℕ} (pick (eqb n 0) 1 0) 0 = rw (ne-eqb n 0 (λ z. omega arith)) in
           rw none (eq-eqb (bit 0 (sentWord words n)) 0 (omega (arith, sent-idle words n (omega arith), div-one (sentWord words n))))
 
-  active-ok : (n : ℕ) → activeRight n (min n (length words)) (sentWord words n) ≡ true
+  pub active-ok : (n : ℕ) → activeRight n (min n (length words)) (sentWord words n) ≡ true
   active-ok n = go (decLt n (length words))
     where
       go : Dec (n < length words) → activeRight n (min n (length words)) (sentWord words n) ≡ true
@@ -74,16 +73,13 @@ module _ (words : List ℕ) (even : (i : ℕ) → i < length words → evenBody 
           let z : sentWord words n ≡ 0 = sent-idle words n (omega arith) in
           rw z
 
-  even-ok : (n : ℕ) → evenBody (sentWord words n) ≡ true
+  pub even-ok : (n : ℕ) → evenBody (sentWord words n) ≡ true
   even-ok n = go (decLt n (length words))
     where
       go : Dec (n < length words) → evenBody (sentWord words n) ≡ true
       go (yes h) =
           even-same (sentWord words n) (getD words n 0) (omega (arith, sent-active words n h, marks n .1, marks n .2, clean n)) ∙ even n h
       go (no h) = ap evenBody (sent-idle words n (omega arith)) ∙ even-zero
-
-  pub channel-right : (n : ℕ) → 1 ≤ length words → channelPiece n (min n (length words)) (sentWord words n) ≡ Channel (sentWord words n)
-  channel-right n some = rw (first-ok n some, active-ok n, even-ok n)
 
   -- with bits 0 and 1 cleared they are the given words, and zeros
   pub padded-at : (channels n : ℕ) → n < channels → getD (padded channels words) n 0 ≡ cleared (sentWord words n)

@@ -17,7 +17,7 @@ use Rattle.subframe.specs.Body.{evenBody}
 use Rattle.madi_read.specs.Reader.{cleared}
 use Rattle.madi_write.specs.Writer.{marked}
 use Rattle.madi_write.proofs.Frames.{marked-words}
-use Rattle.madi.proofs.Standing.{Placed}
+use Rattle.madi.specs.Units.{Placed}
 use Rattle.madi.proofs.Sending.{even-same}
 
 digit-of : (w : ℕ) → digit (odd (w / 2)) ≡ bit 1 w

@@ -1,78 +1,77 @@
--- Writing back an accepted line gives that line if all syncs came last; one proof for both channel counts. Assumes
--- nothing.
+-- Writing back an accepted line gives that line if all commands came last, into every buffer that is long enough; one
+-- proof for both channel counts. Assumes nothing.
 use mathlib.Core.Path.{_≡_, sym, ap, ap₂, subst, _∙_}
 use mathlib.Core.Bool.{true}
 use mathlib.Core.List.{List, _++_, map}
 use Prim.Native.Nat.{ℕ, _-_, _%_, _≤_, _<_}
 use native.Mathlib.Omega.{arith}
 use borrow.Author.Tests.{le-leb}
-use lib.ListN.{length, getD, take, replicate, length-map}
+use lib.ListN.{length, getD, take, drop, replicate, length-map}
 use lib.Seq.{length-take-le, getD-take}
 use Rattle.bits.specs.Row.{Row, odd, count, Below}
 use Rattle.bits.specs.Pack.{octets}
 use Rattle.bits.specs.Cross.{across}
 use Rattle.bits.proofs.Counts.{count-le}
 use Rattle.bits.proofs.Crossing.{length-across}
-use Rattle.answer.specs.Answer.{Answer, Answer.accepted, rewritten}
+use Rattle.answer.specs.Answer.{Answer, Answer.accepted, verdict, rewritten}
 use Rattle.answer.specs.Demand.{AllMet, _&_}
-use Rattle.answer.proofs.Residues.{whole}
 use Rattle.subframe.specs.Body.{evenBody}
 use Rattle.line.specs.Nrzi.{levels}
-use Rattle.madi_code.specs.Frame.{boundary}
+use Rattle.madi_code.specs.Frame.{boundary, numbered, synced}
 use Rattle.madi_code.proofs.FrameLaws.{counted-some}
-use Rattle.madi_read.specs.Reader.{carried, Frame, atStart, cleared, frameRead}
-use Rattle.madi_read.proofs.Carrying.{length-carried}
+use Rattle.madi_read.specs.Reader.{carried, Frame, cleared, frameRead, commandsOf}
+use Rattle.madi_read.proofs.Copying.{list-front}
 use Rattle.madi_read.proofs.Lines.{line-again}
 use Rattle.madi_read.proofs.Accepting.{Accepted, accepting}
-use Rattle.madi_write.specs.Writer.{marked, channelWords, frameRow, needed, frameOctets, writeDemands, frameWritten}
-use Rattle.madi_write.proofs.Frames.{length-frame, all-words, frame-row, frame-octets}
-use Rattle.madi_write.proofs.Checks.{sound-met, frame-accepted}
-use Rattle.madi.specs.Units.{SyncsLast}
-use Rattle.madi.proofs.Standing.{Stands, stands}
-use Rattle.madi.proofs.LastSyncs.{Row-of, last-row}
+use Rattle.madi_write.specs.Writer.{marked, channelWords, frameRow, needed, frameOctets, isList, writeDemands, frameWritten}
+use Rattle.madi_write.proofs.Frames.{all-words, frame-row, frame-octets}
+use Rattle.madi_write.proofs.Checks.{list-right, sound-met, frame-accepted}
+use Rattle.madi.specs.Units.{channelsIn, CommandsLast}
+use Rattle.madi.proofs.ExactReading.{Stood, counts-stood}
+use Rattle.madi.proofs.LastCommands.{Row-of, last-row}
 use Rattle.madi.proofs.Words.{sent-again, even-again, clear-again}
 
 -- ---- the promise
 
-module _ (channels level bits : ℕ) (line : List ℕ) (room : ℕ) (f : Frame) (octal : Below 256 line)
-    (reads : frameRead channels level bits line room ≡ accepted f) where
-  got : Accepted channels level bits line room f
-  got = accepting channels level bits line room f reads
+module _ (channels level bits : ℕ) (line : List ℕ) (room places : ℕ) (f : Frame) (octal : Below 256 line)
+    (reads : frameRead channels level bits line room places ≡ accepted f) where
+  got : Accepted channels level bits line room places f
+  got = accepting channels level bits line room places f reads
 
-  stood : Stands (carried level bits line) channels atStart f
-  stood = stands (carried level bits line) channels f (got .read)
+  stood : Stood channels level bits line f
+  stood = counts-stood channels level bits line room places f reads
 
   a : ℕ
   a = f .active
 
-  s : ℕ
-  s = f .syncs
+  cs : List ℕ
+  cs = f .commands
 
   ws : List ℕ
   ws = f .words
 
   -- the words with which the frame was sent
   vs : List ℕ
-  vs = stood .left
+  vs = channelsIn (stood .us)
 
   given : List ℕ
   given = take a ws
 
   all : length vs ≡ channels
   unfolding vs
-  all = omega (arith, stood .all)
+  all = stood .lawful .all
 
   count-is : a ≡ count (across 1 vs)
   unfolding vs a
-  count-is = omega (arith, stood .actives)
+  count-is = stood .active
 
   words-are : ws ≡ map cleared vs
   unfolding vs ws
-  words-are = stood .given
+  words-are = stood .words
 
   again : (0 < count (across 1 vs)) × (vs ≡ marked (take (count (across 1 vs)) (map cleared vs)) ++ replicate (length vs - count (across 1 vs)) 0)
   unfolding vs
-  again = sent-again vs (omega (arith, all, counted-some channels (got .counts))) (stood .placed)
+  again = sent-again vs (omega (arith, all, counted-some channels (got .counts))) (stood .lawful .placed)
 
   some : 0 < a
   some = omega (arith, count-is, again .0)
@@ -99,7 +98,7 @@ module _ (channels level bits : ℕ) (line : List ℕ) (room : ℕ) (f : Frame) 
   given-even i h =
       let l : i < a = omega (arith, length-given) in
       ap evenBody (getD-take a ws i 0 l ∙ ap (λ (xs : List ℕ). getD xs i 0) words-are)
-      ∙ even-again 0 0 vs (stood .placed) i (omega (arith, most, all))
+      ∙ even-again 0 0 vs (stood .lawful .placed) i (omega (arith, most, all))
 
   given-clear : (i : ℕ) → i < length given → getD given i 0 % 4 ≡ 0
   unfolding given
@@ -107,38 +106,62 @@ module _ (channels level bits : ℕ) (line : List ℕ) (room : ℕ) (f : Frame) 
       let l : i < a = omega (arith, length-given) in
       ap (λ (x : ℕ). x % 4) (getD-take a ws i 0 l ∙ ap (λ (xs : List ℕ). getD xs i 0) words-are) ∙ clear-again vs i
 
-  module _ (last : SyncsLast channels (carried level bits line)) where
-    same-row : carried level bits line ≡ frameRow channels given s
-    unfolding vs s
+  -- so are the commands
+  few : length cs ≤ 255
+  unfolding cs
+  few = omega (arith, ap length (stood .commands), stood .lawful .few)
+
+  list : isList cs ≡ true
+  unfolding cs
+  list = list-right cs few (ap numbered (stood .commands) ∙ stood .lawful .named) (ap synced (stood .commands) ∙ stood .lawful .with-sync)
+
+  module _ (last : CommandsLast channels (carried level bits line)) where
+    same-row : carried level bits line ≡ frameRow channels given cs
+    unfolding vs cs
     same-row =
-        let more : stood .more ≡ s = omega (arith, stood .syncs) in
-        last-row (stood .units) (subst (λ (n : ℕ). SyncsLast n (carried level bits line)) (sym all) last)
-        ∙ ap₂ Row-of (sym sent-words) more ∙ sym (frame-row channels given s)
+        stood .units
+        ∙ last-row (stood .us) (stood .lawful .named)
+        (subst (λ (r : Row). CommandsLast (length vs) r) (stood .units) (subst (λ (n : ℕ). CommandsLast n (carried level bits line)) (sym all) last))
+        ∙ ap₂ Row-of (sym sent-words) (sym (stood .commands)) ∙ sym (frame-row channels given cs)
 
-    bits-are : bits ≡ boundary channels s
-    bits-are =
-        sym (length-carried level bits line) ∙ ap length same-row ∙ length-frame channels given s (omega (arith, length-given, most))
+    bits-are : bits ≡ boundary channels (length cs)
+    unfolding cs
+    bits-are = stood .whole
 
-    same-line : frameOctets channels given s level ≡ line
+    same-line : frameOctets channels given cs level ≡ line
     same-line =
-        let n : needed channels s ≡ length line = omega (arith, bits-are, got .long) in
-        frame-octets channels given s level ∙ ap₂ (λ (k : ℕ) (r : Row). octets k (levels (odd level) r)) n (sym same-row)
+        let n : needed channels (length cs) ≡ length line = omega (arith, bits-are, got .long) in
+        frame-octets channels given cs level ∙ ap₂ (λ (k : ℕ) (r : Row). octets k (levels (odd level) r)) n (sym same-row)
         ∙ line-again level bits line octal (omega (arith, got .long)) (got .spare)
 
-    meets : (space : ℕ) → length line ≤ space → AllMet (writeDemands channels given s level space)
-    unfolding s
+    meets : (space : ℕ) → length line ≤ space → AllMet (writeDemands channels given cs level space)
     meets space h =
         got .counts & le-leb 1 (length given) (omega (arith, length-given, some)) & le-leb (length given) channels (omega (arith, length-given, most))
-        & le-leb 1 s (stood .synced) & le-leb s 255 (stood .short) & le-leb level 1 (got .digital)
-        & le-leb (needed channels s) space (omega (arith, bits-are, got .long)) & sound-met given (λ i h. (given-even i h, given-clear i h))
+        & list & le-leb level 1 (got .digital) & le-leb (needed channels (length cs)) space (omega (arith, bits-are, got .long))
+        & sound-met given (λ i h. (given-even i h, given-clear i h))
 
-    -- the writer, given the active words, the sync count, the level and room for the line, gives the line
-    pub write-back : (space : ℕ) → length line ≤ space → frameWritten channels (take (f .active) (f .words)) (f .syncs) level space ≡ accepted line
-    unfolding given a s ws
-    write-back space h = frame-accepted channels given s level space (meets space h) ∙ ap accepted same-line
+    again-written : (space : ℕ) → length line ≤ space → frameWritten channels given cs level space ≡ accepted line
+    again-written space h = frame-accepted channels given cs level space (meets space h) ∙ ap accepted same-line
 
-    -- and a buffer as long as the line then holds the line
-    pub line-back : (old : List ℕ) → length old ≡ length line
-        → rewritten (frameWritten channels (take (f .active) (f .words)) (f .syncs) level (length old)) old ≡ line
+    -- the commands that the caller takes from the list, as many as came
+    abbrev pub taken : List ℕ
+    taken = take (length (f .commands)) (commandsOf f)
+
+    list-taken : taken ≡ f .commands
+    list-taken = list-front (f .commands)
+
+    -- the writer, given the active words, the commands, the level and a buffer at least as long as the line, accepts
+    pub write-back : (old : List ℕ) → length line ≤ length old
+        → verdict (frameWritten channels (take (f .active) (f .words)) taken level (length old)) ≡ accepted tt
+    unfolding given a cs ws
+    write-back old h =
+        ap (λ (l : List ℕ). verdict (frameWritten channels (take (f .active) (f .words)) l level (length old))) list-taken
+        ∙ ap verdict (again-written (length old) h)
+
+    -- and the line stands in front in the buffer, and after it what stood there
+    pub line-back : (old : List ℕ) → length line ≤ length old
+        → rewritten (frameWritten channels (take (f .active) (f .words)) taken level (length old)) old ≡ line ++ drop (length line) old
+    unfolding given a cs ws
     line-back old h =
-        ap (λ (x : Answer (List ℕ)). rewritten x old) (write-back (length old) (omega arith)) ∙ whole (λ (l : List ℕ). l) line old (sym h)
+        ap (λ (l : List ℕ). rewritten (frameWritten channels (take (f .active) (f .words)) l level (length old)) old) list-taken
+        ∙ ap (λ (x : Answer (List ℕ)). rewritten x old) (again-written (length old) h)

@@ -13,15 +13,16 @@ use Rattle.bits.specs.Row.{Row, odd, bits, bigBits, big}
 use Rattle.bits.specs.Window.{part, window}
 use Rattle.bits.specs.Pack.{chain, pack}
 use Rattle.bits.proofs.Rows.{length-bits, length-bigBits, getD-bits, big-bigBits, bits-mod}
-use Rattle.bits.proofs.Windows.{part-same, part-all, window-split, window-part, window-lt}
+use Rattle.bits.proofs.Windows.{part-same, part-all, window-split, window-part, window-high, window-lt}
 use Rattle.bits.proofs.Packing.{length-pack, getD-pack}
 use Rattle.bits.proofs.Chains.{length-chained, part-chained, windows-same}
-use Rattle.madi_code.specs.Groups.{groupCode, sync, groupOf}
+use Rattle.madi_code.specs.Groups.{groupCode, commandOf, groupOf}
 use Rattle.madi_code.specs.Channels.{channelRow, onData, channelFrom, channelOf}
 use Rattle.madi_code.specs.declared.Group.{Group}
-use Rattle.madi_code.specs.declared.Group.the-variants.{Data, Nothing}
+use Rattle.madi_code.specs.declared.Group.the-variants.{Data, Half, Nothing}
 use Rattle.madi_code.specs.declared.ChannelBits.the-variants.{Word, Broken}
-use Rattle.madi_code.proofs.GroupLaws.{code-lt, code-no-sync, place-lt, group-data, group-only}
+use Rattle.madi_code.specs.declared.ChannelBits.{ChannelBits}
+use Rattle.madi_code.proofs.GroupLaws.{code-lt, place-lt, group-data, group-only, no-half}
 
 -- ---- sent
 
@@ -88,9 +89,11 @@ module _ (r : Row) (g w : ℕ) (h : g < 8) where
   unfolding channelFrom
   channel-more x e = rw (left, e)
 
-  pub channel-stop : groupOf (window r (5 * g) 5) ≡ Nothing → channelFrom r (8 - g) g w ≡ Broken g
+  -- a group that is no data group stops it
+  pub channel-stop : (t : Group) → groupOf (window r (5 * g) 5) ≡ t → ((on : ℕ → ChannelBits) (stop : ChannelBits) → onData t on stop ≡ stop)
+      → channelFrom r (8 - g) g w ≡ Broken g
   unfolding channelFrom
-  channel-stop e = rw (left, e)
+  channel-stop t e stops = rw (left, e) (stops (λ x. channelFrom r (8 - (g + 1)) (g + 1) (w + x * 2 ^ (4 * g))) (Broken g))
 
 -- four more bits of the word
 pub word-grows : (w x g : ℕ) → x < 16 → w < 2 ^ (4 * g) → w + x * 2 ^ (4 * g) < 2 ^ (4 * (g + 1))
@@ -109,6 +112,11 @@ four-shl x g hx h = shl-exact {a = x} 4 (4 * g) 32 hx (omega arith)
 
 -- ---- there and back
 
+meant-four : (w g : ℕ) → g < 8 → groupOf (window (channelRow w) (5 * g) 5) ≡ Data (w / 2 ^ (4 * g) % 16)
+meant-four w g h =
+    ap groupOf (group-sent w g h ∙ ap (λ (r : Row). groupCode (big r)) (sym (bits-mod 4 (w / 2 ^ (4 * g)))))
+    ∙ group-data (w / 2 ^ (4 * g) % 16) (omega arith)
+
 module _ (w : ℕ) (hw : w < 2 ^ 32) where
   gathered : (g : ℕ) → w % 2 ^ (4 * g) + w / 2 ^ (4 * g) % 16 * 2 ^ (4 * g) ≡ w % 2 ^ (4 * (g + 1))
   gathered g =
@@ -116,18 +124,13 @@ module _ (w : ℕ) (hw : w < 2 ^ 32) where
       let m : w % 2 ^ (4 + 4 * g) ≡ w / 2 ^ (4 * g) % 16 * 2 ^ (4 * g) + w % 2 ^ (4 * g) = mod-pow-add w 4 (4 * g) in
       omega (arith, m) ∙ ap (λ (x : ℕ). w % 2 ^ x) (sym e)
 
-  meant-four : (g : ℕ) → g < 8 → groupOf (window (channelRow w) (5 * g) 5) ≡ Data (w / 2 ^ (4 * g) % 16)
-  meant-four g h =
-      ap groupOf (group-sent w g h ∙ ap (λ (r : Row). groupCode (big r)) (sym (bits-mod 4 (w / 2 ^ (4 * g)))))
-      ∙ group-data (w / 2 ^ (4 * g) % 16) (omega arith)
-
   from-group : (n g : ℕ) → n + g ≡ 8 → channelFrom (channelRow w) n g (w % 2 ^ (4 * g)) ≡ Word w
   unfolding channelFrom
   from-group zero g e =
       let e8 : 4 * g ≡ 32 = omega arith in
       ap (λ (x : ℕ). Word (w % 2 ^ x)) e8 ∙ ap Word (mod-eq-of-lt hw)
   from-group (suc n) g e =
-      ap (λ (x : Group). onData x (λ d. channelFrom (channelRow w) n (g + 1) (w % 2 ^ (4 * g) + d * 2 ^ (4 * g))) (Broken g)) (meant-four g (omega arith))
+      ap (λ (x : Group). onData x (λ d. channelFrom (channelRow w) n (g + 1) (w % 2 ^ (4 * g) + d * 2 ^ (4 * g))) (Broken g)) (meant-four w g (omega arith))
       ∙ ap (channelFrom (channelRow w) n (g + 1)) (gathered g) ∙ from-group n (g + 1) (omega arith)
 
   -- the 40 bits of a word are read as the word
@@ -169,6 +172,7 @@ module _ (r : Row) (w : ℕ) where
           → ((g v : ℕ) → n + g ≡ 8 → v < 2 ^ (4 * g) → channelFrom r n g v ≡ Word w → Rest r w g v)
           → onData t (λ x. channelFrom r n (g + 1) (v + x * 2 ^ (4 * g))) (Broken g) ≡ Word w → Rest r w g v
       by Nothing f on q = absurd (let z : _≡_ {A = ℕ} 0 1 = cc in omega arith)
+      by Half f on q = absurd (let z : _≡_ {A = ℕ} 0 1 = cc in omega arith)
       by (Data x) f on q =
           let only = group-only (window r (5 * g) 5) x f in
           let rest = on (g + 1) (v + x * 2 ^ (4 * g)) (omega arith) (word-grows v x g (only .0) hv) q in
@@ -204,13 +208,18 @@ broken-lt r g e = from 8 0 0 refl e
         by : (t : Group) → ((k w : ℕ) → n + k ≡ 8 → channelFrom r n k w ≡ Broken g → g < 8)
             → onData t (λ x. channelFrom r n (k + 1) (w + x * 2 ^ (4 * k))) (Broken k) ≡ Broken g → g < 8
         by Nothing on q = let same : k ≡ g = cc in omega arith
+        by Half on q = let same : k ≡ g = cc in omega arith
         by (Data x) on q = on (k + 1) (w + x * 2 ^ (4 * k)) (omega arith) q
 
--- no channel begins with a sync
-pub channel-no-sync : (w : ℕ) → window (channelRow w) 0 10 ≡ sync → ⊥
-channel-no-sync w e =
-    let x : ℕ = big (bits 4 (w / 2 ^ (4 * 0))) in
-    let a : window (channelRow w) 0 5 ≡ groupCode x = group-sent w 0 (omega arith) in
-    let s : window (channelRow w) 0 10 ≡ window (channelRow w) 0 5 * 32 + window (channelRow w) (0 + 5) 5 = window-split (channelRow w) 0 5 5 in
-    let b : window (channelRow w) (0 + 5) 5 < 32 = window-lt (channelRow w) (0 + 5) 5 in
-    code-no-sync x (place-lt (w / 2 ^ (4 * 0))) (sym a ∙ omega arith)
+-- no channel begins with a command
+pub channel-no-command : (w : ℕ) → commandOf (window (channelRow w) 0 10) ≡ 16
+channel-no-command w = no-half (window (channelRow w) 0 10) (λ e. no-data (sym (ap groupOf first-five) ∙ e))
+  where
+    first-five : window (channelRow w) 0 10 / 32 % 32 ≡ window (channelRow w) (5 * 0) 5
+    first-five = omega (arith, window-high (channelRow w) 0 5 5, window-lt (channelRow w) 0 5)
+
+    no-data : groupOf (window (channelRow w) (5 * 0) 5) ≡ Half → ⊥
+    no-data e =
+        let d : Data (w / 2 ^ (4 * 0) % 16) ≡ Half = sym (meant-four w 0 (omega arith)) ∙ e in
+        let z : _≡_ {A = ℕ} 0 1 = cc in
+        omega arith

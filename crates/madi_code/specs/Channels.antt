@@ -5,7 +5,7 @@ use Rattle.bits.specs.Window.{window}
 use Rattle.bits.specs.Pack.{chain, pack}
 use Rattle.madi_code.specs.Groups.{groupCode, groupOf}
 use Rattle.madi_code.specs.declared.Group.{Group}
-use Rattle.madi_code.specs.declared.Group.the-variants.{Data, Nothing}
+use Rattle.madi_code.specs.declared.Group.the-variants.{Data, Half, Nothing}
 use Rattle.madi_code.specs.declared.ChannelBits.{ChannelBits}
 use Rattle.madi_code.specs.declared.ChannelBits.the-variants.{Word, Broken}
 
@@ -20,6 +20,7 @@ channelRow w = chain (λ d. bigBits 5 (groupCode d)) (pack big 4 8 (bits 32 w))
 -- a data group goes on, any other stops
 abbrev pub onData : Group → (ℕ → ChannelBits) → ChannelBits → ChannelBits
 onData (Data x) on stop = on x
+onData Half on stop = stop
 onData Nothing on stop = stop
 
 -- the groups from g on, n of them, with the bits of the groups before them in w

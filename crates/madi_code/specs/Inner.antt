@@ -7,7 +7,7 @@ use lib.ListN.{getD}
 use Rattle.bits.specs.Pick.{pick, first}
 use Rattle.bits.specs.Row.{bits, bigBits, little, big}
 use Rattle.bits.specs.Listed.{listed}
-use Rattle.madi_code.specs.Groups.{groupCode}
+use Rattle.madi_code.specs.Groups.{groupCode, isHalf}
 use Rattle.madi_code.specs.Channels.{channelOf}
 use Rattle.madi_code.specs.declared.ChannelBits.{ChannelBits}
 use Rattle.madi_code.specs.declared.ChannelBits.the-variants.{Word}
@@ -30,10 +30,10 @@ eightGroups t w =
 
 -- ---- received
 
--- what a five-bit group means as a number: four bits of a word; 128, which is more than eight fours together, where
--- it is no data group
+-- what a five-bit group means as a number: four bits of a word; where it is no data group, 128, which is more than
+-- eight fours together, and 129 for half of a command symbol
 unfoldable pub meant : ℕ → ℕ
-meant g = first (λ d. eqb (groupCode d) g) 0 16 (λ d. little (bigBits 4 d)) 128
+meant g = first (λ d. eqb (groupCode d) g) 0 16 (λ d. little (bigBits 4 d)) (pick (isHalf g) 129 128)
 
 -- a table of 32 that has the meanings
 abbrev pub Means : List ℕ → Type 0

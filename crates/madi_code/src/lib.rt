@@ -3,24 +3,28 @@
 ghost use mathlib.Core.Path.{_≡_};
 ghost use Prim.Native.Nat.{_<_};
 ghost use Rattle.bits.specs.Row.{bigBits, bits, big};
-ghost use Rattle.madi_code.specs.Frame.{counted};
-ghost use Rattle.madi_code.specs.Groups.{groupCode, groupOf};
+ghost use lib.ListN.{take};
+ghost use Rattle.madi_code.specs.Frame.{counted, synced};
+ghost use Rattle.madi_code.specs.Groups.{groupCode, commandCodes, commandOf, groupOf};
 ghost use Rattle.madi_code.specs.Channels.{channelRow, channelOf};
 ghost use Rattle.madi_code.specs.Inner.{eightGroups, wordBy, channelBy, groupTable, meaningTable};
 
 mod tables;
 
+use tables::COMMANDS;
 use tables::GROUPS;
 use tables::MEANT;
 use tables::TURNED;
 
-// The default sync.
-pub const SYNC: u64 = 0b11000_10001;
+// The default sync, which is command 0.
+const SYNC: u64 = 0b11000_10001;
 
 // What a five-bit group means.
 pub enum Group {
     // Four bits as they stand in a channel's word.
     Data(u8),
+    // Half of a command symbol.
+    Half,
     Nothing,
 }
 
@@ -38,6 +42,23 @@ pub fn is_counted(channels: u32) -> bool
         return true;
     }
     channels == 64
+}
+
+// Whether command 0 is among the first n of a list.
+pub fn has_sync(commands: &[u8], n: usize) -> bool
+    ensures { λ r. ⌜ r ≡ synced (take n (now (commands .entry))) ⌝ }
+{
+    let mut i = 0;
+    while i < commands.len() {
+        if n <= i {
+            return false;
+        }
+        if commands[i] == 0 {
+            return true;
+        }
+        i += 1;
+    }
+    false
 }
 
 fn wide(x: u8) -> u64
@@ -100,6 +121,13 @@ pub fn channel_bits(w: u32) -> u64
     bits_by(&table, w)
 }
 
+// The table of commands.
+pub fn command_codes() -> [u16; 16]
+    ensures { λ r. ⌜ r ≡ commandCodes ⌝ }
+{
+    COMMANDS
+}
+
 // ---- received
 
 // What a five-bit group means.
@@ -111,9 +139,40 @@ pub fn decode_group(g: u8) -> Group
     }
     let x = MEANT[g as usize];
     if x < 16 {
-        Group::Data(x)
-    } else {
-        Group::Nothing
+        return Group::Data(x);
+    }
+    if x == 129 {
+        return Group::Half;
+    }
+    Group::Nothing
+}
+
+// The command that ten bits are, by a search through all of them.
+fn listed_command(v: u64) -> u32
+    ensures { λ r. ⌜ r ≡ commandOf v ⌝ }
+{
+    let mut c: u32 = 0;
+    while c < 16 {
+        if COMMANDS[c as usize] as u64 == v {
+            return c;
+        }
+        c += 1;
+    }
+    16
+}
+
+// The command that ten bits are, or 16: the default sync at once, the others where their first half is one.
+pub fn command_of(v: u64) -> u32
+    ensures { λ r. ⌜ r ≡ commandOf v ⌝ }
+{
+    if v == SYNC {
+        return 0;
+    }
+    let half = decode_group(((v / 32) % 32) as u8);
+    match half {
+        Group::Half => listed_command(v),
+        Group::Data(_) => 16,
+        Group::Nothing => 16,
     }
 }
 
@@ -161,6 +220,9 @@ pub fn channel_of(v: u64) -> ChannelBits
         match d {
             Group::Data(y) => {
                 w = w + ((y as u32) << (4 * g));
+            }
+            Group::Half => {
+                return ChannelBits::Broken(g);
             }
             Group::Nothing => {
                 return ChannelBits::Broken(g);

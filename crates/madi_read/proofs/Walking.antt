@@ -16,21 +16,24 @@ use Rattle.bits.proofs.Tests.{pick-cases, both-true}
 use Rattle.answer.specs.Answer.{Answer.accepted}
 use Rattle.answer.proofs.Chains.{not-both}
 use Rattle.subframe.specs.Body.{evenBody}
-use Rattle.madi_code.specs.Groups.{sync}
+use Rattle.madi_code.specs.Frame.{synced}
+use Rattle.madi_code.specs.Groups.{commandCode, commandOf}
 use Rattle.madi_code.specs.Channels.{channelOf}
 use Rattle.madi_code.specs.declared.ChannelBits.{ChannelBits}
 use Rattle.madi_code.specs.declared.ChannelBits.the-variants.{Word, Broken}
-use Rattle.madi_read.specs.Reader.{Frame, atStart, placeOf, withSync, withChannel, firstRight, activeRight, channelAt, isSync}
+use Rattle.madi_code.proofs.GroupLaws.{command-only}
+use Rattle.madi_read.specs.Reader.{Frame, atStart, placeOf, withCommand, withChannel, firstRight, activeRight, channelAt, isCommand}
 use Rattle.madi_read.specs.Reader.{pieceAt, onward, readOn, rowRead}
 use Rattle.madi_read.specs.Inner.{sofar}
 use Rattle.madi_read.specs.declared.Piece.{Piece}
-use Rattle.madi_read.specs.declared.Piece.the-variants.{End, Sync, Channel}
+use Rattle.madi_read.specs.declared.Piece.the-variants.{End, Command, Channel}
 use Rattle.madi_read.specs.declared.Piece.the-variants.{Refused as NoPiece}
 
 -- what each piece says of where it stands
 abbrev pub Room : Row → ℕ → Frame → Piece → Type 0
-Room r channels f End = (f .channels ≡ channels) × (0 < f .syncs) × (placeOf f ≡ length r)
-Room r channels f Sync = (f .syncs < 255) × (placeOf f + 10 ≤ length r) × (window r (placeOf f) 10 ≡ sync)
+Room r channels f End = (f .channels ≡ channels) × (synced (f .commands) ≡ true) × (placeOf f ≡ length r)
+Room r channels f (Command c) =
+    (length (f .commands) < 255) × (placeOf f + 10 ≤ length r) × (c < 16) × (window r (placeOf f) 10 ≡ commandCode c)
 Room r channels f (Channel w) =
     (f .channels ≡ channels → ⊥) × (placeOf f + 40 ≤ length r) × (channelOf (part r (placeOf f) 40) ≡ Word w)
     × (firstRight (f .channels) w ≡ true) × (activeRight (f .channels) (f .active) w ≡ true) × (evenBody w ≡ true)
@@ -49,14 +52,16 @@ module _ (r : Row) (channels : ℕ) (f : Frame) where
   pub room : Room r channels f (pieceAt r channels f)
   unfolding pieceAt
   room =
+      let next = window r (placeOf f) 10 in
       pick-cases R (eqb (placeOf f) (length r)) _ _
-      (λ e. pick-cases R (eqb (f .channels) channels && ltb 0 (f .syncs)) End (NoPiece 10 (placeOf f))
-      (λ h. let b = both-true (eqb (f .channels) channels) (ltb 0 (f .syncs)) h in
-      (eqb-true (f .channels) channels (b .0), ltb-true 0 (f .syncs) (b .1), eqb-true (placeOf f) (length r) e)) (λ h. tt))
-      (λ e. pick-cases R (isSync r (placeOf f)) _ _
-      (λ h. pick-cases R (ltb (f .syncs) 255) Sync (NoPiece 10 (placeOf f))
-      (λ k. let b = both-true (leb (placeOf f + 10) (length r)) (eqb (window r (placeOf f) 10) sync) h in
-      (ltb-true (f .syncs) 255 k, leb-true (placeOf f + 10) (length r) (b .0), eqb-true (window r (placeOf f) 10) sync (b .1))) (λ k. tt))
+      (λ e. pick-cases R (eqb (f .channels) channels && synced (f .commands)) End (NoPiece 10 (placeOf f))
+      (λ h. let b = both-true (eqb (f .channels) channels) (synced (f .commands)) h in
+      (eqb-true (f .channels) channels (b .0), b .1, eqb-true (placeOf f) (length r) e)) (λ h. tt))
+      (λ e. pick-cases R (isCommand r (placeOf f)) _ _
+      (λ h. pick-cases R (ltb (length (f .commands)) 255) (Command (commandOf next)) (NoPiece 10 (placeOf f))
+      (λ k. let b = both-true (leb (placeOf f + 10) (length r)) (ltb (commandOf next) 16) h in
+      let known : commandOf next < 16 = ltb-true (commandOf next) 16 (b .1) in
+      (ltb-true (length (f .commands)) 255 k, leb-true (placeOf f + 10) (length r) (b .0), known, sym (command-only next known))) (λ k. tt))
       (λ h. pick-cases R (ltb (length r) (placeOf f + 40)) _ _ (λ k. tt)
       (λ k. pick-cases R (eqb (f .channels) channels) _ _ (λ m. tt)
       (λ m. channel-room (eqb-false (f .channels) channels m) (ltb-false (length r) (placeOf f + 40) k) (channelOf (part r (placeOf f) 40)) refl))))
@@ -65,24 +70,25 @@ module _ (r : Row) (channels : ℕ) (f : Frame) where
       R = Room r channels f
 
   -- one step of reading
-  pub read-step : f .channels ≤ channels → f .syncs ≤ 255 → (p : Piece) → pieceAt r channels f ≡ p
-      → readOn r channels (channels + 256 - (f .channels + f .syncs)) f
-      ≡ onward (readOn r channels (channels + 256 - (f .channels + f .syncs + 1))) f p
+  pub read-step : f .channels ≤ channels → length (f .commands) ≤ 255 → (p : Piece) → pieceAt r channels f ≡ p
+      → readOn r channels (channels + 256 - (f .channels + length (f .commands))) f
+      ≡ onward (readOn r channels (channels + 256 - (f .channels + length (f .commands) + 1))) f p
   unfolding readOn
   read-step hn hs p e =
-      let left : channels + 256 - (f .channels + f .syncs) ≡ suc (channels + 256 - (f .channels + f .syncs + 1)) = omega arith in
+      let left : channels + 256 - (f .channels + length (f .commands)) ≡ suc (channels + 256 - (f .channels + length (f .commands) + 1)) = omega arith in
       rw (left, e)
 
 -- what stands at a boundary does not depend on the words before it
-pub piece-any : (r : Row) (channels n active s : ℕ) (words : List ℕ) → pieceAt r channels (sofar n active s words) ≡ pieceAt r channels (sofar n active s [])
+pub piece-any : (r : Row) (channels n active : ℕ) (commands words : List ℕ)
+    → pieceAt r channels (sofar n active commands words) ≡ pieceAt r channels (sofar n active commands [])
 unfolding pieceAt
-piece-any r channels n active s words = refl
+piece-any r channels n active commands words = refl
 
 -- ---- a frame that is read, from its end back to its start
 
 module _ {ℓ} (r : Row) (channels : ℕ) (g : Frame) (P : Frame → Type ℓ)
     (at-end : Room r channels g End → P g)
-    (sync-before : (f : Frame) → Room r channels f Sync → P (withSync f) → P f)
+    (command-before : (f : Frame) (c : ℕ) → Room r channels f (Command c) → P (withCommand c f) → P f)
     (channel-before : (f : Frame) (w : ℕ) → Room r channels f (Channel w) → P (withChannel w f) → P f) where
   backward : (k : ℕ) (f : Frame) → readOn r channels k f ≡ accepted g → P f
   unfolding readOn
@@ -94,7 +100,7 @@ module _ {ℓ} (r : Row) (channels : ℕ) (g : Frame) (P : Frame → Type ℓ)
       by End q on e =
           let same : f ≡ g = cc in
           subst P (sym same) (at-end (subst (λ (x : Frame). Room r channels x End) same q))
-      by Sync q on e = sync-before f q (on (withSync f) e)
+      by (Command c) q on e = command-before f c q (on (withCommand c f) e)
       by (Channel w) q on e = channel-before f w q (on (withChannel w f) e)
       by (NoPiece number place) q on e = not-both e
 

@@ -1,32 +1,38 @@
 // The MADI reader: what the line carries, what stands at a boundary, a frame.
 ghost use mathlib.Core.Path.{_≡_};
 ghost use mathlib.Core.List.{List, [], _∷_};
+ghost use lib.Dec.{eqb};
 ghost use Prim.Native.Nat.{ℕ, _+_, _*_, _/_, _%_, _-_, _<_, _≤_};
 ghost use lib.ListN.{length, take};
-ghost use Rattle.bits.specs.Row.{odd};
+ghost use Rattle.bits.specs.Pick.{pick};
+ghost use Rattle.bits.specs.Row.{odd, bigBits};
 ghost use Rattle.bits.specs.Window.{window};
 ghost use Rattle.bits.specs.Pack.{symbols};
 ghost use Rattle.answer.specs.Answer.{mapped, after};
 ghost use Rattle.line.specs.Nrzi.{changes};
 ghost use Rattle.madi_code.specs.Frame.{boundary};
+ghost use Rattle.madi_code.specs.Channels.{channelOf};
 ghost use Rattle.madi_code.specs.Inner.{Means};
-ghost use Rattle.madi_read.specs.Reader.{carried, firstRight, activeRight, channelPiece, endOf, syncOf, pieceAt};
-ghost use Rattle.madi_read.specs.Reader.{cleared as wordCleared, rowRead, spareZero, frameRead, countsOf, wordsOf, frameSaid};
-ghost use Rattle.madi_read.specs.Inner.{sofar, copied, Held, shortPiece, Plain, Reached};
+ghost use Rattle.madi_read.specs.Reader.{carried, firstRight, activeRight, channelPiece, channelAt, endOf, commandPiece, pieceAt};
+ghost use Rattle.madi_read.specs.Reader.{cleared as wordCleared, rowRead, spareZero, frameRead, countsOf, wordsOf, commandsOf, listOf, frameSaid};
+ghost use Rattle.madi_read.specs.Inner.{sofar, Listed, Held, shortPiece, Plain, Reached};
+ghost use Rattle.madi_read.specs.declared.Piece.the-variants.{Refused as NoPiece};
 use madi_code::ChannelBits;
-use madi_code::SYNC;
+
+mod copies;
 
 // What stands at a boundary of a frame.
 pub enum Piece {
     End,
-    Sync,
+    Command(u32),
     Channel(u32),
     Refused { number: u32, place: u32 },
 }
 
-// What reading a frame answers: how many channels are active and how many syncs came, or a refusal's number and place.
+// What reading a frame answers: how many channels are active and how many commands came, or a refusal's number and
+// place.
 pub enum ReadAnswer {
-    Read { active: u32, syncs: u32 },
+    Read { active: u32, commands: u32 },
     Refused { number: u32, place: u32 },
 }
 
@@ -96,12 +102,46 @@ fn channel_piece(n: u32, active: u32, w: u32) -> Piece
     }
 }
 
-// The end of a frame: all channels and a sync.
-fn end_of(channels: u32, came: u32, s: u32, at: u32) -> Piece
-    ensures { λ r. ⌜ r ≡ endOf channels came s at ⌝ }
+// A channel's word, where a channel is due.
+fn word_piece(channels: u32, n: u32, active: u32, w: u32, at: u32) -> Piece
+    ensures { λ r. ⌜ r ≡ pick (eqb n channels) (NoPiece 10 at) (channelPiece n active w) ⌝ }
+{
+    if n == channels {
+        return Piece::Refused {
+            number: 10,
+            place: at,
+        };
+    }
+    channel_piece(n, active, w)
+}
+
+// The same of 40 bits, group by group.
+fn no_word(channels: u32, n: u32, active: u32, v: u64, at: u32) -> Piece
+    requires { ⌜ at ≤ 5110 ⌝ }
+    ensures { λ r. ⌜ r ≡ pick (eqb n channels) (NoPiece 10 at) (channelAt at n active (channelOf (bigBits 40 v))) ⌝ }
+{
+    if n == channels {
+        return Piece::Refused {
+            number: 10,
+            place: at,
+        };
+    }
+    let c = madi_code::channel_of(v);
+    match c {
+        ChannelBits::Word(w) => channel_piece(n, active, w),
+        ChannelBits::Broken(g) => Piece::Refused {
+            number: 11,
+            place: at + 5 * g,
+        },
+    }
+}
+
+// The end of a frame: all channels, and command 0 among those that came.
+fn end_of(channels: u32, came: u32, codes: &[u8], s: u32, at: u32) -> Piece
+    ensures { λ r. ⌜ r ≡ endOf channels came (take s (now (codes .entry))) at ⌝ }
 {
     if came == channels {
-        if 0 < s {
+        if madi_code::has_sync(codes, s as usize) {
             return Piece::End;
         }
     }
@@ -111,12 +151,12 @@ fn end_of(channels: u32, came: u32, s: u32, at: u32) -> Piece
     }
 }
 
-// A sync after s of them: a 256th is one too many.
-fn sync_of(s: u32, at: u32) -> Piece
-    ensures { λ r. ⌜ r ≡ syncOf s at ⌝ }
+// A command after s of them: a 256th is one too many.
+fn command_piece(c: u32, s: u32, at: u32) -> Piece
+    ensures { λ r. ⌜ r ≡ commandPiece c s at ⌝ }
 {
     if s < 255 {
-        return Piece::Sync;
+        return Piece::Command(c);
     }
     Piece::Refused {
         number: 10,
@@ -124,14 +164,15 @@ fn sync_of(s: u32, at: u32) -> Piece
     }
 }
 
-// What stands where fewer than 40 bits are left, and at least one: a sync, or no whole unit.
+// What stands where fewer than 40 bits are left, and at least one: a command, or no whole unit.
 fn short_piece(line: &[u8], level: u32, bits: u32, s: u32, at: u32) -> Piece
     requires { ⌜ (level ≤ 1) × (bits ≤ 5110) × (bits ≤ length (now line) * 8) × (at < bits) ⌝ }
     ensures { λ r. ⌜ r ≡ shortPiece (carried level bits (now (line .entry))) s at ⌝ }
 {
     if at + 10 <= bits {
-        if bits_at(line, level, at as usize, 10) == SYNC {
-            return sync_of(s, at);
+        let c = madi_code::command_of(bits_at(line, level, at as usize, 10));
+        if c < 16 {
+            return command_piece(c, s, at);
         }
     }
     Piece::Refused {
@@ -140,7 +181,8 @@ fn short_piece(line: &[u8], level: u32, bits: u32, s: u32, at: u32) -> Piece
     }
 }
 
-// What stands at the boundary after n channels and s syncs. The table is that of meanings.
+// What stands at the boundary after n channels and s commands, which are in codes. The table is that of meanings. No
+// channel begins with a command, so that ten bits are looked up only where 40 are no channel.
 fn piece_at(
     table: &[u8; 32],
     line: &[u8],
@@ -149,36 +191,29 @@ fn piece_at(
     bits: u32,
     n: u32,
     active: u32,
+    codes: &[u8],
     s: u32,
 ) -> Piece
-    requires { ⌜ Means (now table) × (level ≤ 1) × (bits ≤ 5110) × (bits ≤ length (now line) * 8) × (boundary n s ≤ bits) ⌝ }
-    ensures { λ r. ⌜ r ≡ pieceAt (carried level bits (now (line .entry))) channels (sofar n active s []) ⌝ }
+    requires { ⌜ Means (now table) × (level ≤ 1) × (bits ≤ 5110) × (bits ≤ length (now line) * 8) × (s ≤ length (now codes)) × (boundary n s ≤ bits) ⌝ }
+    ensures { λ r. ⌜ r ≡ pieceAt (carried level bits (now (line .entry))) channels (sofar n active (take s (now (codes .entry))) []) ⌝ }
 {
     let at = 40 * n + 10 * s;
     if at == bits {
-        return end_of(channels, n, s, at);
+        return end_of(channels, n, codes, s, at);
     }
     if bits < at + 40 {
         return short_piece(line, level, bits, s, at);
     }
     let v = bits_at(line, level, at as usize, 40);
-    if v / 0x4000_0000 == SYNC {
-        return sync_of(s, at);
+    let w = madi_code::word_by(table, v);
+    if w < 0x1_0000_0000 {
+        return word_piece(channels, n, active, w as u32, at);
     }
-    if n == channels {
-        return Piece::Refused {
-            number: 10,
-            place: at,
-        };
+    let c = madi_code::command_of(v / 0x4000_0000);
+    if c < 16 {
+        return command_piece(c, s, at);
     }
-    let c = madi_code::channel_by(table, v);
-    match c {
-        ChannelBits::Word(w) => channel_piece(n, active, w),
-        ChannelBits::Broken(g) => Piece::Refused {
-            number: 11,
-            place: at + 5 * g,
-        },
-    }
+    no_word(channels, n, active, v, at)
 }
 
 // ---- what most of a frame is, several pieces on end
@@ -213,7 +248,7 @@ fn channels_on(
     held: &mut [u32],
 ) -> u32
     requires { ⌜ Means (now table) × (level ≤ 1) × (bits ≤ 5110) × (bits ≤ length (now line) * 8) × (channels ≤ 64) × (length (now held) ≡ 64) × (n ≤ channels) × (s ≤ 255) × (boundary n s ≤ bits) ⌝ }
-    ensures { λ r. ⌜ (n ≤ r) × (r ≤ channels) × (boundary r s ≤ bits) × (length (now (held .exit)) ≡ 64) × Reached (carried level bits (now (line .entry))) channels (sofar n active s (take n (now (held .entry)))) (sofar r (active + (r - n)) s (take r (now (held .exit)))) ⌝ }
+    ensures { λ r. ⌜ (n ≤ r) × (r ≤ channels) × (boundary r s ≤ bits) × (length (now (held .exit)) ≡ 64) × ((commands : List ℕ) → length commands ≡ s → Reached (carried level bits (now (line .entry))) channels (sofar n active commands (take n (now (held .entry)))) (sofar r (active + (r - n)) commands (take r (now (held .exit))))) ⌝ }
 {
     let mut m = n;
     if 0 < n {
@@ -235,10 +270,18 @@ fn channels_on(
     m
 }
 
-// Syncs on end, after all channels: the count of syncs then.
-fn syncs_on(line: &[u8], level: u32, channels: u32, bits: u32, n: u32, s: u32) -> u32
-    requires { ⌜ (level ≤ 1) × (bits ≤ 5110) × (bits ≤ length (now line) * 8) × (n ≤ channels) × (channels ≤ 64) × (s ≤ 255) × (boundary n s ≤ bits) ⌝ }
-    ensures { λ r. ⌜ (s ≤ r) × (r ≤ 255) × (boundary n r ≤ bits) × ((active : ℕ) (words : List ℕ) → Reached (carried level bits (now (line .entry))) channels (sofar n active s words) (sofar n active r words)) ⌝ }
+// Commands on end, after all channels: the count of commands then. They go to codes.
+fn commands_on(
+    line: &[u8],
+    level: u32,
+    channels: u32,
+    bits: u32,
+    n: u32,
+    s: u32,
+    codes: &mut [u8],
+) -> u32
+    requires { ⌜ (level ≤ 1) × (bits ≤ 5110) × (bits ≤ length (now line) * 8) × (n ≤ channels) × (channels ≤ 64) × (s ≤ 255) × (boundary n s ≤ bits) × Listed s (now codes) ⌝ }
+    ensures { λ r. ⌜ (s ≤ r) × (r ≤ 255) × (boundary n r ≤ bits) × Listed r (now (codes .exit)) × ((active : ℕ) (words : List ℕ) → Reached (carried level bits (now (line .entry))) channels (sofar n active (take s (now (codes .entry))) words) (sofar n active (take r (now (codes .exit))) words)) ⌝ }
 {
     let mut t = s;
     if n == channels {
@@ -247,11 +290,12 @@ fn syncs_on(line: &[u8], level: u32, channels: u32, bits: u32, n: u32, s: u32) -
             if bits < at + 10 {
                 return t;
             }
-            if bits_at(line, level, at as usize, 10) == SYNC {
-                t += 1;
-            } else {
+            let c = madi_code::command_of(bits_at(line, level, at as usize, 10));
+            if 15 < c {
                 return t;
             }
+            codes[t as usize] = c as u8;
+            t += 1;
         }
     }
     t
@@ -266,24 +310,25 @@ fn cleared(w: u32) -> u32
     w - w % 4
 }
 
-// As many words as dst takes; where there are fewer, dst stays.
-fn copy(src: &[u32], dst: &mut [u32])
-    ensures { λ r. ⌜ now (dst .exit) ≡ copied (now (src .entry)) (now (dst .entry)) ⌝ }
+// A list of 255 with no command in it.
+fn no_commands() -> [u8; 255]
+    ensures { λ r. ⌜ Listed 0 r ⌝ }
 {
-    if dst.len() <= src.len() {
-        let mut i = 0;
-        while i < dst.len() {
-            dst[i] = src[i];
-            i += 1;
-        }
-    }
+    [0; 255]
 }
 
-// The frame, piece by piece, but for channels and syncs on end. Its words go to held.
-fn walk(line: &[u8], level: u32, channels: u32, bits: u32, held: &mut [u32]) -> ReadAnswer
-    requires { ⌜ (level ≤ 1) × (bits ≤ 5110) × (bits ≤ length (now line) * 8) × (channels ≤ 64) × (length (now held) ≡ 64) ⌝ }
+// The frame, piece by piece, but for channels and commands on end. Its words go to held, its commands to codes.
+fn walk(
+    line: &[u8],
+    level: u32,
+    channels: u32,
+    bits: u32,
+    held: &mut [u32],
+    codes: &mut [u8],
+) -> ReadAnswer
+    requires { ⌜ (level ≤ 1) × (bits ≤ 5110) × (bits ≤ length (now line) * 8) × (channels ≤ 64) × (length (now held) ≡ 64) × Listed 0 (now codes) ⌝ }
     ensures { λ r. ⌜ frameSaid r ≡ mapped countsOf (rowRead (carried level bits (now (line .entry))) channels) ⌝ }
-    ensures { λ r. ⌜ Held channels (rowRead (carried level bits (now (line .entry))) channels) (now (held .exit)) ⌝ }
+    ensures { λ r. ⌜ Held channels (rowRead (carried level bits (now (line .entry))) channels) (now (held .exit)) (now (codes .exit)) ⌝ }
 {
     let table = madi_code::meanings();
     let mut n: u32 = 0;
@@ -293,13 +338,17 @@ fn walk(line: &[u8], level: u32, channels: u32, bits: u32, held: &mut [u32]) -> 
         let m = channels_on(&table, line, level, channels, bits, n, active, s, held);
         active += m - n;
         n = m;
-        s = syncs_on(line, level, channels, bits, n, s);
-        let p = piece_at(&table, line, level, channels, bits, n, active, s);
+        s = commands_on(line, level, channels, bits, n, s, codes);
+        let p = piece_at(&table, line, level, channels, bits, n, active, codes, s);
         match p {
             Piece::End => {
-                return ReadAnswer::Read { active, syncs: s };
+                return ReadAnswer::Read {
+                    active,
+                    commands: s,
+                };
             }
-            Piece::Sync => {
+            Piece::Command(c) => {
+                codes[s as usize] = c as u8;
                 s += 1;
             }
             Piece::Channel(w) => {
@@ -323,45 +372,65 @@ fn spare_zero(bits: u32, line: &[u8]) -> bool
 }
 
 // Reads a frame whose numbers and lengths are right.
-fn read_checked(channels: u32, level: u32, bits: u32, line: &[u8], words: &mut [u32]) -> ReadAnswer
-    requires { ⌜ (level ≤ 1) × (bits ≤ 5110) × (bits ≤ length (now line) * 8) × (channels ≤ 64) × (length (now words) ≡ channels) ⌝ }
+fn read_checked(
+    channels: u32,
+    level: u32,
+    bits: u32,
+    line: &[u8],
+    words: &mut [u32],
+    commands: &mut [u8],
+) -> ReadAnswer
+    requires { ⌜ (level ≤ 1) × (bits ≤ 5110) × (bits ≤ length (now line) * 8) × (channels ≤ 64) × (length (now words) ≡ channels) × (length (now commands) ≡ 255) ⌝ }
     ensures { λ r. ⌜ frameSaid r ≡ mapped countsOf (rowRead (carried level bits (now (line .entry))) channels) ⌝ }
     ensures { λ r. ⌜ now (words .exit) ≡ after wordsOf (rowRead (carried level bits (now (line .entry))) channels) (now (words .entry)) ⌝ }
+    ensures { λ r. ⌜ now (commands .exit) ≡ after commandsOf (rowRead (carried level bits (now (line .entry))) channels) (now (commands .entry)) ⌝ }
 {
     let mut held = [0u32; 64];
-    let answer = walk(line, level, channels, bits, &mut held);
+    let mut codes = no_commands();
+    let answer = walk(line, level, channels, bits, &mut held, &mut codes);
     match answer {
-        ReadAnswer::Read { active, syncs } => {
-            copy(&held, words);
-            ReadAnswer::Read { active, syncs }
+        ReadAnswer::Read {
+            active,
+            commands: came,
+        } => {
+            copies::words(&held, words);
+            copies::octets(&codes, commands);
+            ReadAnswer::Read {
+                active,
+                commands: came,
+            }
         }
         ReadAnswer::Refused { number, place } => ReadAnswer::Refused { number, place },
     }
 }
 
-// Reads a frame of so many bits, after a level: every word of it goes to words.
+// Reads a frame of so many bits, after a level: every word of it goes to words, and its commands to commands.
 pub fn read_frame(
     channels: u32,
     level: u32,
     bits: u32,
     line: &[u8],
     words: &mut [u32],
+    commands: &mut [u8],
 ) -> ReadAnswer
-    ensures { λ r. ⌜ frameSaid r ≡ mapped countsOf (frameRead channels level bits (now (line .entry)) (length (now (words .entry)))) ⌝ }
-    ensures { λ r. ⌜ now (words .exit) ≡ after wordsOf (frameRead channels level bits (now (line .entry)) (length (now (words .entry)))) (now (words .entry)) ⌝ }
+    ensures { λ r. ⌜ frameSaid r ≡ mapped countsOf (frameRead channels level bits (now (line .entry)) (length (now (words .entry))) (length (now (commands .entry)))) ⌝ }
+    ensures { λ r. ⌜ now (words .exit) ≡ after wordsOf (frameRead channels level bits (now (line .entry)) (length (now (words .entry))) (length (now (commands .entry)))) (now (words .entry)) ⌝ }
+    ensures { λ r. ⌜ now (commands .exit) ≡ after commandsOf (frameRead channels level bits (now (line .entry)) (length (now (words .entry))) (length (now (commands .entry)))) (now (commands .entry)) ⌝ }
 {
     if madi_code::is_counted(channels) {
         if level <= 1 {
             if bits <= 5110 {
                 if line.len() == (bits as usize + 7) / 8 {
                     if words.len() == channels as usize {
-                        if spare_zero(bits, line) {
-                            return read_checked(channels, level, bits, line, words);
+                        if commands.len() == 255 {
+                            if spare_zero(bits, line) {
+                                return read_checked(channels, level, bits, line, words, commands);
+                            }
+                            return ReadAnswer::Refused {
+                                number: 2,
+                                place: 0,
+                            };
                         }
-                        return ReadAnswer::Refused {
-                            number: 2,
-                            place: 0,
-                        };
                     }
                 }
                 return ReadAnswer::Refused {

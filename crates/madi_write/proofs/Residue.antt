@@ -7,7 +7,7 @@ use Rattle.answer.specs.Residue.{NoResidue}
 use Rattle.answer.proofs.Residues.{no-residue}
 use Rattle.madi_write.specs.Writer.{frameWritten}
 
-pub madi-write-leaves-none : (channels : ℕ) (words : List ℕ) (syncs level : ℕ)
-    → NoResidue (λ new. new) (λ line. frameWritten channels words syncs level (length line))
-    (λ line. rewritten (frameWritten channels words syncs level (length line)) line)
-madi-write-leaves-none channels words syncs level = no-residue (λ new. new) (frameWritten channels words syncs level)
+pub madi-write-leaves-none : (channels : ℕ) (words commands : List ℕ) (level : ℕ)
+    → NoResidue (λ new. new) (λ line. frameWritten channels words commands level (length line))
+    (λ line. rewritten (frameWritten channels words commands level (length line)) line)
+madi-write-leaves-none channels words commands level = no-residue (λ new. new) (frameWritten channels words commands level)

@@ -9,22 +9,22 @@ use lib.ListN.{length, getD, take, drop}
 use Rattle.bits.specs.Pick.{pick}
 use Rattle.bits.specs.Row.{big}
 use Rattle.subframe.specs.Body.{evenBody}
-use Rattle.madi_code.specs.Groups.{sync}
+use Rattle.madi_code.specs.Groups.{commandCode}
 use Rattle.madi_code.specs.Channels.{channelRow}
 
 -- the word of channel b as it is sent
 unfoldable pub sentWord : List ℕ → ℕ → ℕ
 sentWord words b = pick (ltb b (length words)) (getD words b 0 + pick (eqb b 0) 3 2) 0
 
--- k syncs as a number
-unfoldable pub syncsNumber : ℕ → ℕ
-syncsNumber zero = 0
-syncsNumber (suc k) = syncsNumber k * 2 ^ 10 + sync
+-- k commands of a list from the i-th on as a number
+unfoldable pub commandsNumber : List ℕ → ℕ → ℕ → ℕ
+commandsNumber commands i zero = 0
+commandsNumber commands i (suc k) = commandsNumber commands i k * 2 ^ 10 + commandCode (getD commands (i + k) 0)
 
--- the 40 bits of a frame from bit 40 b on as a number: a channel, or four syncs
-unfoldable pub blockOf : ℕ → List ℕ → ℕ → ℕ
-unfolding syncsNumber
-blockOf channels words b = pick (ltb b channels) (big (channelRow (sentWord words b))) (syncsNumber 4)
+-- the 40 bits of a frame from bit 40 b on as a number: a channel, or four commands
+unfoldable pub blockOf : ℕ → List ℕ → List ℕ → ℕ → ℕ
+blockOf channels words commands b =
+    pick (ltb b channels) (big (channelRow (sentWord words b))) (commandsNumber commands (4 * (b - channels)) 4)
 
 -- y is the number whose digits, each against the one before, are those of x
 abbrev pub Levels : ℕ → ℕ → Type 0

@@ -1,17 +1,17 @@
 -- What writing a MADI frame means: the channels as they are sent, the frame's bits, its octets. Assumes nothing.
 use Prim.Native.Nat.{ℕ, _+_, _-_, _/_, _%_}
-use mathlib.Core.Bool.{not}
+use mathlib.Core.Bool.{Bool, not, _&&_}
 use mathlib.Core.List.{List, [], _∷_, _++_, map}
 use lib.Dec.{eqb, leb}
 use lib.ListN.{length, getD, replicate}
-use Rattle.bits.specs.Row.{Row, odd, bigBits}
+use Rattle.bits.specs.Row.{Row, odd}
 use Rattle.bits.specs.Pack.{chain, octets}
 use Rattle.answer.specs.Answer.{Answer, Answer.accepted}
 use Rattle.answer.specs.Demand.{Demand, Demand.asks, Demand.findsNone, provided}
 use Rattle.subframe.specs.Body.{evenBody}
 use Rattle.line.specs.Nrzi.{levels}
-use Rattle.madi_code.specs.Frame.{counted, boundary}
-use Rattle.madi_code.specs.Groups.{sync}
+use Rattle.madi_code.specs.Frame.{counted, boundary, numbered, synced}
+use Rattle.madi_code.specs.Groups.{commandRow}
 use Rattle.madi_code.specs.Channels.{channelRow}
 
 -- ---- the frame
@@ -25,36 +25,41 @@ marked (w ∷ ws) = (w + 3) ∷ map (λ v. v + 2) ws
 unfoldable pub channelWords : ℕ → List ℕ → List ℕ
 channelWords channels words = marked words ++ replicate (channels - length words) 0
 
--- the bits of the frame: the channels, then the syncs
-unfoldable pub frameRow : ℕ → List ℕ → ℕ → Row
-frameRow channels words syncs = chain channelRow (channelWords channels words) ++ chain (bigBits 10) (replicate syncs sync)
+-- the bits of the frame: the channels, then the commands in their order
+unfoldable pub frameRow : ℕ → List ℕ → List ℕ → Row
+frameRow channels words commands = chain channelRow (channelWords channels words) ++ chain commandRow commands
 
--- the octets needed
+-- the octets needed for so many commands
 abbrev pub needed : ℕ → ℕ → ℕ
-needed channels syncs = (boundary channels syncs + 7) / 8
+needed channels n = (boundary channels n + 7) / 8
 
 -- the frame on the line, after a level
-unfoldable pub frameOctets : ℕ → List ℕ → ℕ → ℕ → List ℕ
-frameOctets channels words syncs level = octets (needed channels syncs) (levels (odd level) (frameRow channels words syncs))
+unfoldable pub frameOctets : ℕ → List ℕ → List ℕ → ℕ → List ℕ
+frameOctets channels words commands level =
+    octets (needed channels (length commands)) (levels (odd level) (frameRow channels words commands))
 
 -- ---- the answer
 
--- 56 or 64 channels, at least one word and that many at most, 1 to 255 syncs, a level (2); at least the octets needed
--- (1)
-abbrev pub argumentDemands : ℕ → ℕ → ℕ → ℕ → ℕ → List Demand
-argumentDemands channels count syncs level room =
-    asks 2 0 (counted channels) ∷ asks 2 0 (leb 1 count) ∷ asks 2 0 (leb count channels) ∷ asks 2 0 (leb 1 syncs) ∷ asks 2 0 (leb syncs 255)
-    ∷ asks 2 0 (leb level 1) ∷ asks 1 0 (leb (needed channels syncs) room) ∷ []
+-- a list of commands: 1 to 255 of them, none above 15, at least one of them 0
+unfoldable pub isList : List ℕ → Bool
+isList commands = (leb 1 (length commands) && leb (length commands) 255) && (numbered commands && synced commands)
+
+-- 56 or 64 channels, at least one word and that many at most, a list of commands, a level (2); at least the octets
+-- needed (1)
+abbrev pub argumentDemands : ℕ → ℕ → List ℕ → ℕ → ℕ → List Demand
+argumentDemands channels count commands level room =
+    asks 2 0 (counted channels) ∷ asks 2 0 (leb 1 count) ∷ asks 2 0 (leb count channels) ∷ asks 2 0 (isList commands)
+    ∷ asks 2 0 (leb level 1) ∷ asks 1 0 (leb (needed channels (length commands)) room) ∷ []
 
 -- parity is even (9); bits 0 and 1 are zero (12)
 abbrev pub wordDemands : List ℕ → List Demand
 wordDemands words =
     findsNone 9 (λ i. not (evenBody (getD words i 0))) 0 (length words) ∷ findsNone 12 (λ i. not (eqb (getD words i 0 % 4) 0)) 0 (length words) ∷ []
 
-abbrev pub writeDemands : ℕ → List ℕ → ℕ → ℕ → ℕ → List Demand
-writeDemands channels words syncs level room = argumentDemands channels (length words) syncs level room ++ wordDemands words
+abbrev pub writeDemands : ℕ → List ℕ → List ℕ → ℕ → ℕ → List Demand
+writeDemands channels words commands level room = argumentDemands channels (length words) commands level room ++ wordDemands words
 
 -- with room for so many octets: the octets of the frame
-unfoldable pub frameWritten : ℕ → List ℕ → ℕ → ℕ → ℕ → Answer (List ℕ)
-frameWritten channels words syncs level room =
-    provided (writeDemands channels words syncs level room) (accepted (frameOctets channels words syncs level))
+unfoldable pub frameWritten : ℕ → List ℕ → List ℕ → ℕ → ℕ → Answer (List ℕ)
+frameWritten channels words commands level room =
+    provided (writeDemands channels words commands level room) (accepted (frameOctets channels words commands level))

@@ -1,5 +1,6 @@
 // The MADI writer: a block of 40 bits, its levels, its octets; the checks; a frame.
 ghost use mathlib.Core.Path.{_≡_};
+ghost use mathlib.Core.Bool.{true};
 ghost use mathlib.Core.List.{_++_};
 ghost use Prim.Native.Nat.{ℕ, _+_, _*_, _%_, _<_, _≤_};
 ghost use lib.ListN.{length, getD, drop};
@@ -7,15 +8,13 @@ ghost use Rattle.bits.specs.Row.{big};
 ghost use Rattle.answer.specs.Answer.{accepted, verdict, rewritten};
 ghost use Rattle.answer.specs.Demand.{provided};
 ghost use Rattle.answer.specs.Said.{verdictSaid};
+ghost use Rattle.madi_code.specs.Frame.{numbered};
+ghost use Rattle.madi_code.specs.Groups.{commandCodes};
 ghost use Rattle.madi_code.specs.Channels.{channelRow};
 ghost use Rattle.madi_code.specs.Inner.{Sends};
-ghost use Rattle.madi_write.specs.Writer.{needed, frameOctets, wordDemands, writeDemands, frameWritten};
-ghost use Rattle.madi_write.specs.Inner.{sentWord, blockOf, Levels, Stored, Sound};
+ghost use Rattle.madi_write.specs.Writer.{needed, frameOctets, isList, wordDemands, writeDemands, frameWritten};
+ghost use Rattle.madi_write.specs.Inner.{sentWord, commandsNumber, blockOf, Levels, Stored, Sound};
 use answer::Verdict;
-use madi_code::SYNC;
-
-// Four syncs: 40 bits, as a channel has.
-const FOUR_SYNCS: u64 = SYNC * 0x4010_0401;
 
 // The word of channel b as it is sent: the given ones are active, and bit 0 is set on channel 0; the others are all
 // zero.
@@ -32,11 +31,33 @@ fn sent_word(words: &[u32], b: usize) -> u32
     0
 }
 
-// The 40 bits of a frame from bit 40 b on: a channel, or four syncs. The table is that of groups, and `idle` an
-// inactive channel.
-fn block(table: &[u8; 16], idle: u64, channels: usize, words: &[u32], b: usize) -> u64
-    requires { ⌜ Sends (now table) × (idle ≡ big (channelRow 0)) × (length (now words) ≤ channels) × ((k : ℕ) → getD (now words) k 0 % 4 ≡ 0) ⌝ }
-    ensures { λ r. ⌜ r ≡ blockOf channels (now (words .entry)) b ⌝ }
+// The k commands of a list from the i-th on, at most four, the earliest highest. The table is that of commands.
+fn commands_from(codes: &[u16; 16], commands: &[u8], i: usize, k: usize) -> u64
+    requires { ⌜ (now codes ≡ commandCodes) × (k ≤ 4) × (i + k ≤ length (now commands)) × (numbered (now commands) ≡ true) ⌝ }
+    ensures { λ r. ⌜ r ≡ commandsNumber (now (commands .entry)) i k ⌝ }
+{
+    let mut x: u64 = 0;
+    let mut j: usize = 0;
+    while j < k {
+        x = x * 0x400 + codes[commands[i + j] as usize] as u64;
+        j += 1;
+    }
+    x
+}
+
+// The 40 bits of a frame from bit 40 b on: a channel, or four commands. The tables are those of groups and of commands,
+// and `idle` an inactive channel.
+fn block(
+    table: &[u8; 16],
+    codes: &[u16; 16],
+    idle: u64,
+    channels: usize,
+    words: &[u32],
+    commands: &[u8],
+    b: usize,
+) -> u64
+    requires { ⌜ Sends (now table) × (now codes ≡ commandCodes) × (idle ≡ big (channelRow 0)) × (channels ≤ 64) × (length (now words) ≤ channels) × ((k : ℕ) → getD (now words) k 0 % 4 ≡ 0) × (length (now commands) ≤ 255) × (numbered (now commands) ≡ true) × (40 * b + 40 ≤ 40 * channels + 10 * length (now commands)) ⌝ }
+    ensures { λ r. ⌜ r ≡ blockOf channels (now (words .entry)) (now (commands .entry)) b ⌝ }
 {
     if b < words.len() {
         return madi_code::bits_by(table, sent_word(words, b));
@@ -44,7 +65,7 @@ fn block(table: &[u8; 16], idle: u64, channels: usize, words: &[u32], b: usize) 
     if b < channels {
         return idle;
     }
-    FOUR_SYNCS
+    commands_from(codes, commands, 4 * (b - channels), 4)
 }
 
 // The levels whose changes are the bits of x: each bit is changed by all before it, by doubling.
@@ -71,24 +92,28 @@ fn store(line: &mut [u8], j: usize, y: u64, n: usize)
     }
 }
 
-// The octets of a frame, into the front of line: blocks of five octets, then the syncs that are left.
-fn fill(channels: usize, words: &[u32], syncs: usize, level: u32, line: &mut [u8])
-    requires { ⌜ (level ≤ 1) × (channels ≤ 64) × (length (now words) ≤ channels) × (syncs ≤ 255) × ((k : ℕ) → getD (now words) k 0 % 4 ≡ 0) × (needed channels syncs ≤ length (now line)) ⌝ }
-    ensures { λ r. ⌜ now (line .exit) ≡ frameOctets channels (now (words .entry)) syncs level ++ drop (needed channels syncs) (now (line .entry)) ⌝ }
+// The octets of a frame, into the front of line: blocks of five octets, then the commands that are left.
+fn fill(channels: usize, words: &[u32], commands: &[u8], level: u32, line: &mut [u8])
+    requires { ⌜ (level ≤ 1) × (channels ≤ 64) × (length (now words) ≤ channels) × (length (now commands) ≤ 255) × (numbered (now commands) ≡ true) × ((k : ℕ) → getD (now words) k 0 % 4 ≡ 0) × (needed channels (length (now commands)) ≤ length (now line)) ⌝ }
+    ensures { λ r. ⌜ now (line .exit) ≡ frameOctets channels (now (words .entry)) (now (commands .entry)) level ++ drop (needed channels (length (now (commands .entry)))) (now (line .entry)) ⌝ }
 {
     let table = madi_code::groups();
+    let codes = madi_code::command_codes();
     let idle = madi_code::bits_by(&table, 0);
-    let whole = channels + syncs / 4;
+    let fours = commands.len() / 4;
+    let whole = channels + fours;
     let mut last = level as u64;
     let mut b: usize = 0;
     while b < whole {
-        let y = levels_after(last * 0x100_0000_0000 + block(&table, idle, channels, words, b));
+        let x = block(&table, &codes, idle, channels, words, commands, b);
+        let y = levels_after(last * 0x100_0000_0000 + x);
         store(line, 5 * b, y, 5);
         last = y % 2;
         b += 1;
     }
-    let k = syncs % 4;
-    let y = levels_after((last << (10 * k)) + (FOUR_SYNCS >> (40 - 10 * k)));
+    let k = commands.len() % 4;
+    let x = commands_from(&codes, commands, 4 * fours, k);
+    let y = levels_after((last << (10 * k)) + x);
     store(line, 5 * whole, y << (40 - 10 * k), (10 * k + 7) / 8);
 }
 
@@ -147,24 +172,42 @@ fn check_words(words: &[u32]) -> Verdict
     find_fault(words)
 }
 
+// Whether these are 1 to 255 commands, none above 15, and at least one of them 0.
+fn is_list(commands: &[u8]) -> bool
+    ensures { λ r. ⌜ r ≡ isList (now (commands .entry)) ⌝ }
+{
+    if commands.len() < 1 {
+        return false;
+    }
+    if 255 < commands.len() {
+        return false;
+    }
+    let mut i = 0;
+    while i < commands.len() {
+        if 15 < commands[i] {
+            return false;
+        }
+        i += 1;
+    }
+    madi_code::has_sync(commands, commands.len())
+}
+
 // Whether all demands are met, before anything is written.
-fn check_frame(channels: u32, words: &[u32], syncs: u32, level: u32, room: usize) -> Verdict
-    ensures { λ r. ⌜ verdictSaid r ≡ provided (writeDemands channels (now (words .entry)) syncs level room) (accepted tt) ⌝ }
+fn check_frame(channels: u32, words: &[u32], commands: &[u8], level: u32, room: usize) -> Verdict
+    ensures { λ r. ⌜ verdictSaid r ≡ provided (writeDemands channels (now (words .entry)) (now (commands .entry)) level room) (accepted tt) ⌝ }
 {
     if madi_code::is_counted(channels) {
         if 1 <= words.len() {
             if words.len() <= channels as usize {
-                if 1 <= syncs {
-                    if syncs <= 255 {
-                        if level <= 1 {
-                            if (40 * channels + 10 * syncs + 7) as usize / 8 <= room {
-                                return check_words(words);
-                            }
-                            return Verdict::Refused {
-                                number: 1,
-                                place: 0,
-                            };
+                if is_list(commands) {
+                    if level <= 1 {
+                        if (40 * channels as usize + 10 * commands.len() + 7) / 8 <= room {
+                            return check_words(words);
                         }
+                        return Verdict::Refused {
+                            number: 1,
+                            place: 0,
+                        };
                     }
                 }
             }
@@ -176,15 +219,22 @@ fn check_frame(channels: u32, words: &[u32], syncs: u32, level: u32, room: usize
     }
 }
 
-// Writes a frame: 56 or 64 channels, the words of those that are active, 1 to 255 syncs after them, the level before.
-pub fn write_frame(channels: u32, words: &[u32], syncs: u32, level: u32, line: &mut [u8]) -> Verdict
-    ensures { λ r. ⌜ verdictSaid r ≡ verdict (frameWritten channels (now (words .entry)) syncs level (length (now (line .entry)))) ⌝ }
-    ensures { λ r. ⌜ now (line .exit) ≡ rewritten (frameWritten channels (now (words .entry)) syncs level (length (now (line .entry)))) (now (line .entry)) ⌝ }
+// Writes a frame: 56 or 64 channels, the words of those that are active, 1 to 255 commands after them, the level
+// before.
+pub fn write_frame(
+    channels: u32,
+    words: &[u32],
+    commands: &[u8],
+    level: u32,
+    line: &mut [u8],
+) -> Verdict
+    ensures { λ r. ⌜ verdictSaid r ≡ verdict (frameWritten channels (now (words .entry)) (now (commands .entry)) level (length (now (line .entry)))) ⌝ }
+    ensures { λ r. ⌜ now (line .exit) ≡ rewritten (frameWritten channels (now (words .entry)) (now (commands .entry)) level (length (now (line .entry)))) (now (line .entry)) ⌝ }
 {
-    let answer = check_frame(channels, words, syncs, level, line.len());
+    let answer = check_frame(channels, words, commands, level, line.len());
     match answer {
         Verdict::Accepted => {
-            fill(channels as usize, words, syncs as usize, level, line);
+            fill(channels as usize, words, commands, level, line);
             Verdict::Accepted
         }
         Verdict::Refused { number, place } => Verdict::Refused { number, place },

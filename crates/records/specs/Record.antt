@@ -14,16 +14,16 @@ use Rattle.madi_read.specs.Reader.{frameRead, countsOf}
 use Rattle.records.specs.declared.Outcome.{Outcome}
 use Rattle.records.specs.declared.Outcome.the-variants.{Aes3, Hd, Madi, Refused}
 
--- what is answered of an accepted record: whether the CRCC of A and of B is right; group and DBN; active and sync count
+-- what is answered of an accepted record: whether the CRCC of A and of B is right; group and DBN; active and command count
 pub data Content : Type 0 where
   aes3 : (a b : ℕ) → Content
   hd : (group dbn : ℕ) → Content
-  madi : (active syncs : ℕ) → Content
+  madi : (active commands : ℕ) → Content
 
 abbrev pub outcomeSaid : Outcome → Answer Content
 outcomeSaid (Aes3 a b) = accepted (Content.aes3 a b)
 outcomeSaid (Hd group dbn) = accepted (Content.hd group dbn)
-outcomeSaid (Madi active syncs) = accepted (Content.madi active syncs)
+outcomeSaid (Madi active commands) = accepted (Content.madi active commands)
 outcomeSaid (Refused number place) = refused number place
 
 -- ---- kind 1: an AES3 block
@@ -63,7 +63,7 @@ unfoldable pub frameRecord : List ℕ → Answer Content
 frameRecord payload =
     provided (frameDemands payload)
     (mapped frameContent (mapped countsOf
-    (frameRead (getD payload 0 0) (getD payload 1 0) (getD payload 2 0 * 256 + getD payload 3 0) (drop 4 payload) (getD payload 0 0))))
+    (frameRead (getD payload 0 0) (getD payload 1 0) (getD payload 2 0 * 256 + getD payload 3 0) (drop 4 payload) (getD payload 0 0) 255)))
 
 -- ---- any kind
 

@@ -25,7 +25,7 @@ pub enum Turn {
 pub enum Outcome {
     Aes3 { a: u32, b: u32 },
     Hd { group: u32, dbn: u32 },
-    Madi { active: u32, syncs: u32 },
+    Madi { active: u32, commands: u32 },
     Refused { number: u32, place: u32 },
 }
 
@@ -179,11 +179,17 @@ fn no_words() -> [u32; 256]
     [0; 256]
 }
 
+fn no_commands() -> [u8; 255]
+    ensures { λ r. ⌜ length r ≡ 255 ⌝ }
+{
+    [0; 255]
+}
+
 fn of_frame(answer: madi_read::ReadAnswer) -> Outcome
     ensures { λ r. ⌜ outcomeSaid r ≡ mapped frameContent (frameSaid answer) ⌝ }
 {
     match answer {
-        madi_read::ReadAnswer::Read { active, syncs } => Outcome::Madi { active, syncs },
+        madi_read::ReadAnswer::Read { active, commands } => Outcome::Madi { active, commands },
         madi_read::ReadAnswer::Refused { number, place } => Outcome::Refused { number, place },
     }
 }
@@ -201,7 +207,15 @@ fn frame(octets: &[u8]) -> Outcome
     let level = octet(octets[1]) as u32;
     let bits = big_endian(octets[2], octets[3]) as u32;
     let mut words = no_words();
-    of_frame(madi_read::read_frame(count as u32, level, bits, &octets[4..], &mut words[..count]))
+    let mut commands = no_commands();
+    of_frame(madi_read::read_frame(
+        count as u32,
+        level,
+        bits,
+        &octets[4..],
+        &mut words[..count],
+        &mut commands,
+    ))
 }
 
 // ---- any kind

@@ -35,7 +35,7 @@ answer-most : (a : Answer Content) → length (answerText a) ≤ 51
 unfolding answerText
 answer-most (accepted (aes3 a b)) = omega (arith, pair-most aes3Ok a b)
 answer-most (accepted (hd group dbn)) = omega (arith, pair-most hdOk group dbn)
-answer-most (accepted (madi active syncs)) = omega (arith, pair-most madiOk active syncs)
+answer-most (accepted (madi active commands)) = omega (arith, pair-most madiOk active commands)
 answer-most (refused number place) = omega (arith, pair-most refusedWord number place)
 
 pub line-most : (n : ℕ) (a : Answer Content) → length (lineOf n a) ≤ 71

@@ -65,7 +65,7 @@ pairText word a b = word ++ decimal a ++ blank ++ decimal b ++ lineEnd
 unfoldable pub answerText : Answer Content → List ℕ
 answerText (accepted (aes3 a b)) = pairText aes3Ok a b
 answerText (accepted (hd group dbn)) = pairText hdOk group dbn
-answerText (accepted (madi active syncs)) = pairText madiOk active syncs
+answerText (accepted (madi active commands)) = pairText madiOk active commands
 answerText (refused number place) = pairText refusedWord number place
 
 -- the line of record n

@@ -86,7 +86,7 @@ fn put_outcome(out: &mut [u8], end: usize, o: Outcome) -> usize
     match o {
         Outcome::Aes3 { a, b } => put_pair(out, end, b" aes3 ok ", a, b),
         Outcome::Hd { group, dbn } => put_pair(out, end, b" hd ok ", group, dbn),
-        Outcome::Madi { active, syncs } => put_pair(out, end, b" madi ok ", active, syncs),
+        Outcome::Madi { active, commands } => put_pair(out, end, b" madi ok ", active, commands),
         Outcome::Refused { number, place } => put_pair(out, end, b" refused ", number, place),
     }
 }

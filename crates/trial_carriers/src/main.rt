@@ -315,18 +315,34 @@ fn hunts() {
 
 // ---- MADI
 
-fn write_frame(channels: u32, words: &[u32], syncs: u32, level: u32, line: &mut [u8]) {
+// The first n of a list of commands: command 0 first, and some others among more of it.
+fn write_frame(channels: u32, words: &[u32], n: isize, level: u32, line: &mut [u8]) {
+    let mut list = [0u8; 256];
+    list[1] = 1;
+    list[2] = 15;
+    list[200] = 8;
     io::write_all(1, b"frame");
-    show(madi_write::write_frame(channels, words, syncs, level, line));
+    let length = io::count(n, &list);
+    show(madi_write::write_frame(channels, words, &list[..length], level, line));
     number(sum(line));
     end();
 }
 
-fn read_into_words(channels: u32, level: u32, bits: u32, line: &[u8], words: &mut [u32]) {
-    match madi_read::read_frame(channels, level, bits, line, words) {
-        madi_read::ReadAnswer::Read { active, syncs } => {
+fn frame_into(
+    channels: u32,
+    level: u32,
+    bits: u32,
+    line: &[u8],
+    words: &mut [u32],
+    commands: &mut [u8],
+) {
+    match madi_read::read_frame(channels, level, bits, line, words, commands) {
+        madi_read::ReadAnswer::Read {
+            active,
+            commands: came,
+        } => {
             refusal(0, 0);
-            refusal(active, syncs);
+            refusal(active, came);
         }
         madi_read::ReadAnswer::Refused { number: n, place } => refusal(n, place),
     }
@@ -334,19 +350,27 @@ fn read_into_words(channels: u32, level: u32, bits: u32, line: &[u8], words: &mu
 
 fn read_56(level: u32, bits: u32, line: &[u8]) {
     let mut words = [7u32; 56];
+    let mut commands = [9u8; 255];
     io::write_all(1, b"units");
-    read_into_words(56, level, bits, line, &mut words);
+    frame_into(56, level, bits, line, &mut words, &mut commands);
     number(wide(words[0]));
     number(wide(words[55]));
+    number(wide8(commands[1]));
+    number(wide8(commands[2]));
+    number(sum(&commands));
     end();
 }
 
 fn read_64(level: u32, bits: u32, line: &[u8]) {
     let mut words = [7u32; 64];
+    let mut commands = [9u8; 255];
     io::write_all(1, b"units");
-    read_into_words(64, level, bits, line, &mut words);
+    frame_into(64, level, bits, line, &mut words, &mut commands);
     number(wide(words[0]));
     number(wide(words[63]));
+    number(wide8(commands[1]));
+    number(wide8(commands[2]));
+    number(sum(&commands));
     end();
 }
 
@@ -364,7 +388,7 @@ fn annex() {
     end();
 }
 
-// 255 syncs and 256, and no word, to write.
+// 255 commands and 256, and no word, to write.
 fn most() {
     let words = [0u32; 64];
     let mut line = [5u8; 639];
@@ -374,7 +398,7 @@ fn most() {
     write_frame(64, &words[..0], 1, 1, &mut line);
 }
 
-// A 256th sync on the line: its symbols are those of five octets before. And no bits at all.
+// A 256th command on the line: its symbols are those of five octets before. And no bits at all.
 fn too_many() {
     let words = [0u32; 56];
     let mut line = [5u8; 600];

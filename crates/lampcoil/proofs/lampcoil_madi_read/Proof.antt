@@ -14,10 +14,13 @@ frame-requires c κs = search needs
 same-length : tie.Need-same-length
 same-length c = search needs
 
+same-length-2 : tie.Need-same-length-2
+same-length-2 c = search needs
+
 returns : tie.Need-returns
 returns c =
-    let r = c .before .before .before .read-frame in
+    let r = c .before .before .before .before .before .read-frame in
     (c .frame .ensures ∙ ap toldFrame (r .ensures .0), r .ensures .1)
 
 pub lampcoil-madi-read-spec : {M : Type 1} → statement M
-lampcoil-madi-read-spec = tie.close (tie.spec read-frame-requires frame-requires same-length returns)
+lampcoil-madi-read-spec = tie.close (tie.spec read-frame-requires frame-requires same-length same-length-2 returns)

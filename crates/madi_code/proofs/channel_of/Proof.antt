@@ -8,6 +8,7 @@ use Rattle.bits.specs.Row.{bigBits}
 use Rattle.bits.specs.Window.{window}
 use Rattle.madi_code.specs.Groups.{groupOf}
 use Rattle.madi_code.specs.Channels.{channelFrom, channelOf}
+use Rattle.madi_code.specs.declared.Group.the-variants.{Half, Nothing}
 use Rattle.madi_code.proofs.GroupLaws.{group-only}
 use Rattle.madi_code.proofs.ChannelLaws.{group-inside, channel-more, channel-stop, word-grows, word-fits, four-shl}
 use Rattle.madi_code.proofs.channel_of.Statement.{statement}
@@ -80,7 +81,15 @@ enum-told c = search needs
 returns : tie.Need-returns Inv-loop μ-loop
 returns c =
     let b = c .before .before .before .before in
-    sym (channel-stop (bigBits 40 (b .before .args .v)) (b .loop .g) (b .loop .w) (omega arith) (told (c .before .before) ∙ c .enum-told .given .1)) ∙ b .loop .inv .2
+    sym (channel-stop (bigBits 40 (b .before .args .v)) (b .loop .g) (b .loop .w) (omega arith) Half (told (c .before .before) ∙ c .enum-told .given .1) (λ on stop. refl)) ∙ b .loop .inv .2
+
+enum-told-2 : tie.Need-enum-told-2 Inv-loop μ-loop
+enum-told-2 c = search needs
+
+returns-2 : tie.Need-returns-2 Inv-loop μ-loop
+returns-2 c =
+    let b = c .before .before .before .before in
+    sym (channel-stop (bigBits 40 (b .before .args .v)) (b .loop .g) (b .loop .w) (omega arith) Nothing (told (c .before .before) ∙ c .enum-told2 .given .1) (λ on stop. refl)) ∙ b .loop .inv .2
 
 add-g : tie.Need-add-g Inv-loop μ-loop
 add-g c = search needs
@@ -99,9 +108,9 @@ loop-again c =
       sym (channel-more (bigBits 40 (b .before .args .v)) (b .loop .g) (b .loop .w) (omega arith) x (told (c .before .before .before) ∙ c .before .d .given .1)) ∙ b .loop .inv .2,
     )
 
-returns-2 : tie.Need-returns-2 Inv-loop μ-loop
+returns-3 : tie.Need-returns-3 Inv-loop μ-loop
 unfolding channelFrom
-returns-2 c =
+returns-3 c =
     let v = c .before .before .args .v in
     let z : 8 - c .before .loop .g ≡ 0 = omega arith in
     sym (ap (λ (n : ℕ). channelFrom (bigBits 40 v) n (c .before .loop .g) (c .before .loop .w)) z) ∙ c .before .loop .inv .2
@@ -126,7 +135,9 @@ channel-of-spec =
     add-w
     enum-told
     returns
+    enum-told-2
+    returns-2
     add-g
     loop-less
     loop-again
-    returns-2)
+    returns-3)

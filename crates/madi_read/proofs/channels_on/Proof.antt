@@ -1,5 +1,5 @@
 -- `madi_read::channels_on` meets its contract: each turn is a piece of the definition's reading. Assumes nothing.
-use mathlib.Core.Path.{_≡_, ap, _∙_}
+use mathlib.Core.Path.{_≡_, sym, ap, subst, _∙_}
 use mathlib.Core.List.{List}
 use Prim.Native.Nat.{ℕ, _+_, _-_, _≤_, _<_}
 use native.Mathlib.Numerals.{add-one}
@@ -20,12 +20,14 @@ use Rattle.madi_read.proofs.channels_on.Tie as tie
 abbrev Gone : List ℕ → ℕ → ℕ → ℕ → ℕ → ℕ → ℕ → List ℕ → ℕ → List ℕ → Type 0
 Gone line level channels bits n active s held₀ r held =
     (n ≤ r) × (r ≤ channels) × (boundary r s ≤ bits) × (length held ≡ 64)
-    × Reached (carried level bits line) channels (sofar n active s (take n held₀)) (sofar r (active + (r - n)) s (take r held))
+    × ((commands : List ℕ) → length commands ≡ s
+    → Reached (carried level bits line) channels (sofar n active commands (take n held₀)) (sofar r (active + (r - n)) commands (take r held)))
 
 abbrev Inv-loop : tie.InvT-loop
 Inv-loop table line level channels bits n active s held₀ m₀ held m =
     (n ≤ m) × (m ≤ channels) × (boundary m s ≤ bits) × (length held ≡ 64)
-    × Reached (carried level bits line) channels (sofar n active s (take n held₀)) (sofar m m s (take m held))
+    × ((commands : List ℕ) → length commands ≡ s
+    → Reached (carried level bits line) channels (sofar n active commands (take n held₀)) (sofar m m commands (take m held)))
 
 abbrev μ-loop : tie.MeasureT-loop
 μ-loop table line level channels bits n active s held₀ m₀ held m = channels - m
@@ -37,7 +39,7 @@ loop-holds c =
       omega arith,
       omega arith,
       omega arith,
-      ap (λ (k : ℕ). readOn (carried (a .level) (a .bits) (a .line .now)) (a .channels) (a .channels + 256 - (a .n + a .s)) (sofar (a .n) k (a .s) (take (a .n) (a .held .now)))) (c .if2 .taken),
+      λ cs e. ap (λ (k : ℕ). readOn (carried (a .level) (a .bits) (a .line .now)) (a .channels) (a .channels + 256 - (a .n + length cs)) (sofar (a .n) k cs (take (a .n) (a .held .now)))) (c .if2 .taken),
     )
 
 mul-at : tie.Need-mul-at Inv-loop μ-loop
@@ -66,7 +68,7 @@ module _ (l : tie.At-loop Inv-loop μ-loop) where
         omega arith,
         omega arith,
         l .loop .inv .3,
-        ap (λ (k : ℕ). readOn (carried (a .level) (a .bits) (a .line .now)) (a .channels) (a .channels + 256 - (l .loop .m + a .s)) (sofar (l .loop .m) k (a .s) (take (l .loop .m) (l .loop .held)))) e ∙ l .loop .inv .4,
+        λ cs n. ap (λ (k : ℕ). readOn (carried (a .level) (a .bits) (a .line .now)) (a .channels) (a .channels + 256 - (l .loop .m + length cs)) (sofar (l .loop .m) k cs (take (l .loop .m) (l .loop .held)))) e ∙ l .loop .inv .4 cs n,
       )
 
 returns : tie.Need-returns Inv-loop μ-loop
@@ -121,10 +123,11 @@ loop-again c =
       omega arith,
       length-set (l .loop .held) m (w - 2) ∙ l .loop .inv .3,
       let r : Row = carried (a .level) (a .bits) (a .line .now) in
-          ap (λ (t : List ℕ). readOn r (a .channels) (a .channels + 256 - (m + 1 + a .s)) (sofar (m + 1) (m + 1) (a .s) t))
+          λ cs e. ap (λ (t : List ℕ). readOn r (a .channels) (a .channels + 256 - (m + 1 + length cs)) (sofar (m + 1) (m + 1) cs t))
           (ap (λ (k : ℕ). take k (set (l .loop .held) m (w - 2))) (add-one m) ∙ take-suc-set (l .loop .held) m (w - 2) h)
-          ∙ channel-on r (a .channels) m (a .s) w (omega arith) (omega arith) (omega arith) (omega (arith, length-carried (a .level) (a .bits) (a .line .now))) (found c) (take m (l .loop .held))
-          ∙ l .loop .inv .4,
+          ∙ channel-on r (a .channels) m cs w (omega arith) (omega arith) (omega arith) (omega (arith, length-carried (a .level) (a .bits) (a .line .now)))
+          (subst (λ (k : ℕ). Plain r (boundary m k) w) (sym e) (found c)) (take m (l .loop .held))
+          ∙ l .loop .inv .4 cs e,
     )
 
 same-length-3 : tie.Need-same-length-3 Inv-loop μ-loop
@@ -144,7 +147,7 @@ module _ (b : tie.After-slice-known Inv-loop μ-loop) where
         omega arith,
         omega arith,
         omega arith,
-        ap (λ (k : ℕ). readOn (carried (a .level) (a .bits) (a .line .now)) (a .channels) (a .channels + 256 - (a .n + a .s)) (sofar (a .n) k (a .s) (take (a .n) (a .held .now)))) e,
+        λ cs n. ap (λ (k : ℕ). readOn (carried (a .level) (a .bits) (a .line .now)) (a .channels) (a .channels + 256 - (a .n + length cs)) (sofar (a .n) k cs (take (a .n) (a .held .now)))) e,
       )
 
 returns-4 : tie.Need-returns-4 Inv-loop μ-loop

@@ -4,45 +4,51 @@ use Prim.Native.Nat.{_+_, _/_, _^_, _<_}
 use native.Mathlib.Omega.{arith}
 use borrow.Author.Needs.{needs}
 use borrow.Author.Tests.{lt-ltb, le-ltb, le-leb, eq-eqb, ne-eqb}
-use Rattle.bits.specs.Row.{bigBits}
+use lib.ListN.{length, take}
+use lib.Seq.{length-take-le}
+use Rattle.bits.specs.Row.{Row}
 use Rattle.bits.specs.Window.{part, window}
+use Rattle.madi_code.specs.Groups.{commandOf}
 use Rattle.madi_code.specs.Channels.{channelOf}
 use Rattle.madi_code.specs.Frame.{boundary}
-use Rattle.madi_code.proofs.ChannelLaws.{broken-lt}
-use Rattle.madi_code.proofs.TableLaws.{channel-received}
+use Rattle.madi_code.specs.declared.ChannelBits.the-variants.{Word}
+use Rattle.madi_code.proofs.TableLaws.{word-received}
 use Rattle.madi_read.specs.Reader.{carried, pieceAt}
 use Rattle.madi_read.proofs.Carrying.{length-carried, first-ten, forty}
+use Rattle.madi_read.proofs.Onward.{no-command}
 use Rattle.madi_read.proofs.piece_at.Statement.{statement}
 use Rattle.madi_read.proofs.piece_at.Tie as tie
 
+abbrev row : tie.Start → Row
+row s = carried (s .args .level) (s .args .bits) (s .args .line .now)
+
+-- so many commands came
+came : (s : tie.Start) → length (take (s .args .s) (s .args .codes .now)) ≡ s .args .s
+came s = length-take-le (s .args .s) (s .args .codes .now) (s .pre .4)
+
+width : (s : tie.Start) → length (row s) ≡ s .args .bits
+width s = length-carried (s .args .level) (s .args .bits) (s .args .line .now)
+
 -- the first ten of the forty bits
-ten : (c : tie.After-bits-at)
-    → c .bits-at .result / 2 ^ 30
-    ≡ window (carried (c .before .before .before .before .args .level) (c .before .before .before .before .args .bits) (c .before .before .before .before .args .line .now))
-    (boundary (c .before .before .before .before .args .n) (c .before .before .before .before .args .s)) 10
+ten : (c : tie.After-bits-at) → let s = c .before .before .before .before .before in c .bits-at .result / 2 ^ 30 ≡ window (row s) (boundary (s .args .n) (s .args .s)) 10
 ten c =
-    let a = c .before .before .before .before .args in
+    let a = c .before .before .before .before .before .args in
     first-ten (a .level) (a .bits) (a .line .now) (omega arith) (boundary (a .n) (a .s)) (c .bits-at .result) (c .before .if2 .left) (c .bits-at .ensures)
 
 -- the channel that the code found
-found : (c : tie.After-channel-by)
-    → c .channel-by .result
-    ≡ channelOf (part (carried (c .before .before .before .before .before .before .before .args .level) (c .before .before .before .before .before .before .before .args .bits)
-    (c .before .before .before .before .before .before .before .args .line .now))
-    (boundary (c .before .before .before .before .before .before .before .args .n) (c .before .before .before .before .before .before .before .args .s)) 40)
-found c =
-    let b = c .before .before .before in
-    let a = b .before .before .before .before .args in
-    c .channel-by .ensures ∙ channel-received (a .table .now) (b .bits-at .result) (b .before .before .before .before .pre .0)
-    ∙ ap channelOf (forty (a .level) (a .bits) (a .line .now) (omega arith) (boundary (a .n) (a .s)) (b .bits-at .result) (b .before .if2 .left) (b .bits-at .ensures))
+word : (c : tie.Then3) → let s = c .before .before .before .before .before .before .before in channelOf (part (row s) (boundary (s .args .n) (s .args .s)) 40) ≡ Word (c .before .word-by .result)
+word c =
+    let b = c .before .before in
+    let s = b .before .before .before .before .before in
+    let a = s .args in
+    let v = b .bits-at .result in
+    ap channelOf (sym (forty (a .level) (a .bits) (a .line .now) (omega arith) (boundary (a .n) (a .s)) v (b .before .if2 .left) (b .bits-at .ensures)))
+    ∙ word-received (a .table .now) v (s .pre .0) (rw (c .before .word-by .ensures) at (c .if3 .taken))
+    ∙ ap Word (sym (c .before .word-by .ensures))
 
-broken : (c : tie.After-known-told2) → c .before .c2 .given .0 .0 < 8
-broken c =
-    let d = c .before .before .before in
-    let b = d .before .before .before in
-    let a = b .before .before .before .before in
-    broken-lt (bigBits 40 (b .bits-at .result)) (c .before .c2 .given .0 .0)
-    (sym (d .channel-by .ensures ∙ channel-received (a .args .table .now) (b .bits-at .result) (a .pre .0)) ∙ c .before .c2 .given .1)
+-- the command that it found
+command : (c : tie.After-command-of) → let s = c .before .before .before .before .before .before .before .before in c .command-of .result ≡ commandOf (window (row s) (boundary (s .args .n) (s .args .s)) 10)
+command c = c .command-of .ensures ∙ ap commandOf (ten (c .before .before .before))
 
 mul-at : tie.Need-mul-at
 mul-at c = search needs
@@ -59,8 +65,8 @@ end-of-requires c κs = search needs
 returns : tie.Need-returns
 unfolding pieceAt
 returns c =
-    let a = c .before .before .before .args in
-    rw (c .end-of .ensures, length-carried (a .level) (a .bits) (a .line .now), eq-eqb _ _ (c .before .if1 .taken))
+    let s = c .before .before .before .before in
+    rw (came s, c .end-of .ensures, width s, eq-eqb _ _ (c .before .if1 .taken))
 
 add-if2 : tie.Need-add-if2
 add-if2 c = search needs
@@ -71,13 +77,8 @@ short-piece-requires c κs = search needs
 returns-2 : tie.Need-returns-2
 unfolding pieceAt
 returns-2 c =
-    let a = c .before .before .before .before .args in
-    rw (
-      c .short-piece .ensures,
-      length-carried (a .level) (a .bits) (a .line .now),
-      ne-eqb _ _ (c .before .before .if1 .left),
-      lt-ltb _ _ (c .before .if2 .taken),
-    )
+    let s = c .before .before .before .before .before in
+    rw (came s, c .short-piece .ensures, width s, ne-eqb _ _ (c .before .before .if1 .left), lt-ltb _ _ (c .before .if2 .taken))
 
 cast-bits-at : tie.Need-cast-bits-at
 cast-bits-at c = search needs
@@ -85,85 +86,74 @@ cast-bits-at c = search needs
 bits-at-requires : tie.Need-bits-at-requires
 bits-at-requires c κs = search needs
 
-sync-of-requires : tie.Need-sync-of-requires
-sync-of-requires c κs = search needs
+word-by-requires : tie.Need-word-by-requires
+word-by-requires c κs = search needs
+
+cast-word-piece : tie.Need-cast-word-piece
+cast-word-piece c = search needs
+
+word-piece-requires : tie.Need-word-piece-requires
+word-piece-requires c κs = search needs
 
 returns-3 : tie.Need-returns-3
 unfolding pieceAt
 returns-3 c =
-    let b = c .before .before in
-    let a = b .before .before .before .before .args in
+    let b = c .before .before .before in
+    let s = b .before .before .before .before .before in
+    let at = boundary (s .args .n) (s .args .s) in
     rw (
-      c .sync-of .ensures,
-      length-carried (a .level) (a .bits) (a .line .now),
+      came s,
+      c .word-piece .ensures,
+      width s,
       ne-eqb _ _ (b .before .before .if1 .left),
-      le-leb (boundary (a .n) (a .s) + 10) (a .bits) (omega (arith, b .before .if2 .left)),
-      eq-eqb _ _ (sym (ten b) ∙ c .before .if3 .taken),
+      le-leb (at + 10) (s .args .bits) (omega (arith, b .before .if2 .left)),
+      no-command (row s) at (c .before .before .word-by .result) (word (c .before)),
+      le-ltb _ _ (b .before .if2 .left),
+      word (c .before),
     )
+
+command-of-requires : tie.Need-command-of-requires
+command-of-requires c κs = search needs
+
+command-piece-requires : tie.Need-command-piece-requires
+command-piece-requires c κs = search needs
 
 returns-4 : tie.Need-returns-4
 unfolding pieceAt
 returns-4 c =
-    let b = c .before .before in
-    let a = b .before .before .before .before .args in
+    let k = c .before .before in
+    let b = k .before .before .before in
+    let s = b .before .before .before .before .before in
     rw (
-      length-carried (a .level) (a .bits) (a .line .now),
+      came s,
+      c .command-piece .ensures,
+      width s,
       ne-eqb _ _ (b .before .before .if1 .left),
-      le-leb (boundary (a .n) (a .s) + 10) (a .bits) (omega (arith, b .before .if2 .left)),
-      ne-eqb _ _ (λ e. c .before .if3 .left (ten b ∙ e)),
-      le-ltb _ _ (b .before .if2 .left),
-      eq-eqb _ _ (c .if4 .taken),
+      le-leb (boundary (s .args .n) (s .args .s) + 10) (s .args .bits) (omega (arith, b .before .if2 .left)),
+      ← command k,
+      lt-ltb _ 16 (c .before .if4 .taken),
     )
 
-channel-by-requires : tie.Need-channel-by-requires
-channel-by-requires c κs = search needs
-
-enum-known-c : tie.Need-enum-known-c
-enum-known-c c = search needs
-
-channel-piece-requires : tie.Need-channel-piece-requires
-channel-piece-requires c κs = search needs
-
-enum-known-c-2 : tie.Need-enum-known-c-2
-enum-known-c-2 c = search needs
-
-mul-t20 : tie.Need-mul-t20
-mul-t20 c = omega (arith, broken c)
-
-add-t21 : tie.Need-add-t21
-add-t21 c = omega (arith, broken c)
+no-word-requires : tie.Need-no-word-requires
+no-word-requires c κs = search needs
 
 returns-5 : tie.Need-returns-5
 unfolding pieceAt
 returns-5 c =
-    let d = c .before .before .before .before in
-    let b = d .before .before .before in
-    let a = b .before .before .before .before .args in
+    let k = c .before .before in
+    let b = k .before .before .before in
+    let s = b .before .before .before .before .before in
+    let a = s .args in
     rw (
-      c .channel-piece .ensures,
-      length-carried (a .level) (a .bits) (a .line .now),
+      came s,
+      c .no-word .ensures,
+      width s,
       ne-eqb _ _ (b .before .before .if1 .left),
       le-leb (boundary (a .n) (a .s) + 10) (a .bits) (omega (arith, b .before .if2 .left)),
-      ne-eqb _ _ (λ e. d .before .before .if3 .left (ten b ∙ e)),
+      ← command k,
+      le-ltb _ 16 (c .before .if4 .left),
       le-ltb _ _ (b .before .if2 .left),
-      ne-eqb _ _ (d .before .if4 .left),
-      sym (found d) ∙ c .before .before .c .given .1,
-    )
-
-returns-6 : tie.Need-returns-6
-unfolding pieceAt
-returns-6 c =
-    let d = c .before .before .before in
-    let b = d .before .before .before in
-    let a = b .before .before .before .before .args in
-    rw (
-      length-carried (a .level) (a .bits) (a .line .now),
-      ne-eqb _ _ (b .before .before .if1 .left),
-      le-leb (boundary (a .n) (a .s) + 10) (a .bits) (omega (arith, b .before .if2 .left)),
-      ne-eqb _ _ (λ e. d .before .before .if3 .left (ten b ∙ e)),
-      le-ltb _ _ (b .before .if2 .left),
-      ne-eqb _ _ (d .before .if4 .left),
-      sym (found d) ∙ c .before .c2 .given .1,
+      forty (a .level) (a .bits) (a .line .now) (omega arith) (boundary (a .n) (a .s)) (b .bits-at .result) (b .before .if2 .left) (b .bits-at .ensures),
     )
 
 pub piece-at-spec : {M : Type 1} → statement M
@@ -180,14 +170,12 @@ piece-at-spec =
     returns-2
     cast-bits-at
     bits-at-requires
-    sync-of-requires
+    word-by-requires
+    cast-word-piece
+    word-piece-requires
     returns-3
+    command-of-requires
+    command-piece-requires
     returns-4
-    channel-by-requires
-    enum-known-c
-    channel-piece-requires
-    enum-known-c-2
-    mul-t20
-    add-t21
-    returns-5
-    returns-6)
+    no-word-requires
+    returns-5)

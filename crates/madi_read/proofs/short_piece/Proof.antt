@@ -1,11 +1,22 @@
 -- `madi_read::short_piece` meets its contract: the ten bits are the window. Assumes nothing.
-use mathlib.Core.Path.{sym, _∙_}
+use mathlib.Core.Path.{_≡_, ap, _∙_}
 use native.Mathlib.Omega.{arith}
 use borrow.Author.Needs.{needs}
-use borrow.Author.Tests.{le-leb, lt-leb, eq-eqb, ne-eqb}
+use borrow.Author.Tests.{le-leb, lt-leb, lt-ltb, le-ltb}
+use Rattle.bits.specs.Window.{window}
+use Rattle.madi_code.specs.Groups.{commandOf}
+use Rattle.madi_read.specs.Reader.{carried}
 use Rattle.madi_read.proofs.Carrying.{length-carried, window-carried}
 use Rattle.madi_read.proofs.short_piece.Statement.{statement}
 use Rattle.madi_read.proofs.short_piece.Tie as tie
+
+-- the command that the code found
+found : (c : tie.After-command-of) → let a = c .before .before .before .before .args in
+    c .command-of .result ≡ commandOf (window (carried (a .level) (a .bits) (a .line .now)) (a .at) 10)
+found c =
+    let a = c .before .before .before .before .args in
+    c .command-of .ensures
+    ∙ ap commandOf (c .before .bits-at .ensures ∙ window-carried (a .level) (a .bits) (a .line .now) (omega arith) (a .at) 10 (omega arith))
 
 add-if1 : tie.Need-add-if1
 add-if1 c = search needs
@@ -13,28 +24,33 @@ add-if1 c = search needs
 bits-at-requires : tie.Need-bits-at-requires
 bits-at-requires c κs = search needs
 
-sync-of-requires : tie.Need-sync-of-requires
-sync-of-requires c κs = search needs
+command-of-requires : tie.Need-command-of-requires
+command-of-requires c κs = search needs
+
+command-piece-requires : tie.Need-command-piece-requires
+command-piece-requires c κs = search needs
 
 returns : tie.Need-returns
 returns c =
-    let p = c .before .before .before in
+    let p = c .before .before .before .before in
     let a = p .before .before .args in
     rw (
-      c .sync-of .ensures,
+      c .command-piece .ensures,
       length-carried (a .level) (a .bits) (a .line .now),
       le-leb _ _ (p .if1 .taken),
-      eq-eqb _ _ (sym (window-carried (a .level) (a .bits) (a .line .now) (omega arith) (a .at) 10 (omega arith)) ∙ sym (c .before .before .bits-at .ensures) ∙ c .before .if2 .taken),
+      ← found (c .before .before),
+      lt-ltb _ 16 (c .before .if2 .taken),
     )
 
 returns-2 : tie.Need-returns-2
 returns-2 c =
-    let p = c .before .before in
+    let p = c .before .before .before in
     let a = p .before .before .args in
     rw (
       length-carried (a .level) (a .bits) (a .line .now),
       le-leb _ _ (p .if1 .taken),
-      ne-eqb _ _ (λ e. c .if2 .left (c .before .bits-at .ensures ∙ window-carried (a .level) (a .bits) (a .line .now) (omega arith) (a .at) 10 (omega arith) ∙ e)),
+      ← found (c .before),
+      le-ltb _ 16 (c .if2 .left),
     )
 
 returns-3 : tie.Need-returns-3
@@ -44,4 +60,12 @@ returns-3 c =
 
 pub short-piece-spec : {M : Type 1} → statement M
 short-piece-spec =
-    tie.close (tie.spec add-if1 bits-at-requires sync-of-requires returns returns-2 returns-3)
+    tie.close
+    (tie.spec
+    add-if1
+    bits-at-requires
+    command-of-requires
+    command-piece-requires
+    returns
+    returns-2
+    returns-3)

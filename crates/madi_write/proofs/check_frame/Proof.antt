@@ -12,90 +12,93 @@ use Rattle.answer.specs.Demand.Stops.{fails, later}
 use Rattle.answer.proofs.Chains.{stopped, passes-on}
 use Rattle.madi_code.specs.Frame.{counted}
 use Rattle.madi_code.proofs.FrameLaws.{counted-le}
-use Rattle.madi_write.specs.Writer.{argumentDemands, wordDemands}
+use Rattle.madi_write.specs.Writer.{isList, argumentDemands, wordDemands}
+use Rattle.madi_write.proofs.Checks.{list-of}
 use Rattle.madi_write.proofs.check_frame.Statement.{statement}
 use Rattle.madi_write.proofs.check_frame.Tie as tie
 
-counts : (c : tie.Then1) → counted (c .before .before .before .args .channels) ≡ true
+counts : (c : tie.Then1) → counted (c .before .before .before .before .args .channels) ≡ true
 counts c = sym (c .before .is-counted .ensures) ∙ c .if1 .taken
 
-small : (c : tie.Then1) → c .before .before .before .args .channels ≤ 64
-small c = counted-le (c .before .before .before .args .channels) (counts c)
+small : (c : tie.Then1) → c .before .before .before .before .args .channels ≤ 64
+small c = counted-le (c .before .before .before .before .args .channels) (counts c)
+
+-- the list is one
+lists : (c : tie.Then4) → isList (c .before .before .before .before .before .before .before .before .args .commands .now) ≡ true
+lists c = sym (c .before .is-list .ensures) ∙ c .if4 .taken
+
+short : (c : tie.Then4) → length (c .before .before .before .before .before .before .before .before .args .commands .now) ≤ 255
+short c = list-of (c .before .before .before .before .before .before .before .before .args .commands .now) (lists c) .0
 
 is-counted-requires : tie.Need-is-counted-requires
 is-counted-requires c κs = search needs
 
-mul-if7 : tie.Need-mul-if7
-mul-if7 c = omega (arith, small (c .before .before .before .before .before))
+is-list-requires : tie.Need-is-list-requires
+is-list-requires c κs = search needs
 
-mul-if7-2 : tie.Need-mul-if7-2
-mul-if7-2 c = search needs
+mul-if6 : tie.Need-mul-if6
+mul-if6 c = omega (arith, small (c .before .before .before .before .before))
 
-add-if7 : tie.Need-add-if7
-add-if7 c = omega (arith, small (c .before .before .before .before .before))
+mul-if6-2 : tie.Need-mul-if6-2
+mul-if6-2 c = omega (arith, short (c .before))
 
-add-if7-2 : tie.Need-add-if7-2
-add-if7-2 c = omega (arith, small (c .before .before .before .before .before))
+add-if6 : tie.Need-add-if6
+add-if6 c = omega (arith, small (c .before .before .before .before .before), short (c .before))
 
-cast-if7 : tie.Need-cast-if7
-cast-if7 c = search needs
+add-if6-2 : tie.Need-add-if6-2
+add-if6-2 c = omega (arith, small (c .before .before .before .before .before), short (c .before))
 
 check-words-requires : tie.Need-check-words-requires
 check-words-requires c κs = omega (arith, small (c .before .before .before .before .before .before))
 
 returns : tie.Need-returns
 returns c =
-    let t = c .before .before .before .before .before .before .before in
-    let a = t .before .before .before .args in
-    let met : AllMet (argumentDemands (a .channels) (length (a .words .now)) (a .syncs) (a .level) (a .room)) =
-    counts t & le-leb _ _ (c .before .before .before .before .before .before .if2 .taken) & le-leb _ _ (c .before .before .before .before .before .if3 .taken)
-    & le-leb _ _ (c .before .before .before .before .if4 .taken) & le-leb _ _ (c .before .before .before .if5 .taken)
-    & le-leb _ _ (c .before .before .if6 .taken) & le-leb _ _ (c .before .if7 .taken) & tt in
+    let f = c .before .before .before in
+    let t = f .before .before .before .before in
+    let a = t .before .before .before .before .args in
+    let met : AllMet (argumentDemands (a .channels) (length (a .words .now)) (a .commands .now) (a .level) (a .room)) =
+    counts t & le-leb _ _ (f .before .before .before .if2 .taken) & le-leb _ _ (f .before .before .if3 .taken) & lists f & le-leb _ _ (c .before .before .if5 .taken)
+    & le-leb _ _ (c .before .if6 .taken) & tt in
     c .check-words .ensures
-    ∙ sym (passes-on (accepted tt) (argumentDemands (a .channels) (length (a .words .now)) (a .syncs) (a .level) (a .room)) (wordDemands (a .words .now)) met)
+    ∙ sym (passes-on (accepted tt) (argumentDemands (a .channels) (length (a .words .now)) (a .commands .now) (a .level) (a .room)) (wordDemands (a .words .now)) met)
 
 returns-2 : tie.Need-returns-2
 returns-2 c =
-    sym (stopped (accepted tt) (later (counts (c .before .before .before .before .before .before)) (later (le-leb _ _ (c .before .before .before .before .before .if2 .taken))
-    (later (le-leb _ _ (c .before .before .before .before .if3 .taken)) (later (le-leb _ _ (c .before .before .before .if4 .taken))
-    (later (le-leb _ _ (c .before .before .if5 .taken)) (later (le-leb _ _ (c .before .if6 .taken)) (fails (lt-leb _ _ (c .if7 .left))))))))))
+    let f = c .before .before in
+    sym (stopped (accepted tt) (later (counts (f .before .before .before .before)) (later (le-leb _ _ (f .before .before .before .if2 .taken)) (later (le-leb _ _ (f .before .before .if3 .taken))
+    (later (lists f) (later (le-leb _ _ (c .before .if5 .taken)) (fails (lt-leb _ _ (c .if6 .left)))))))))
 
 returns-3 : tie.Need-returns-3
 returns-3 c =
-    sym (stopped (accepted tt) (later (counts (c .before .before .before .before .before)) (later (le-leb _ _ (c .before .before .before .before .if2 .taken))
-    (later (le-leb _ _ (c .before .before .before .if3 .taken)) (later (le-leb _ _ (c .before .before .if4 .taken))
-    (later (le-leb _ _ (c .before .if5 .taken)) (fails (lt-leb _ _ (c .if6 .left)))))))))
+    let f = c .before in
+    sym (stopped (accepted tt) (later (counts (f .before .before .before .before)) (later (le-leb _ _ (f .before .before .before .if2 .taken)) (later (le-leb _ _ (f .before .before .if3 .taken))
+    (later (lists f) (fails (lt-leb _ _ (c .if5 .left))))))))
 
 returns-4 : tie.Need-returns-4
 returns-4 c =
-    sym (stopped (accepted tt) (later (counts (c .before .before .before .before)) (later (le-leb _ _ (c .before .before .before .if2 .taken))
-    (later (le-leb _ _ (c .before .before .if3 .taken)) (later (le-leb _ _ (c .before .if4 .taken)) (fails (lt-leb _ _ (c .if5 .left))))))))
+    sym (stopped (accepted tt) (later (counts (c .before .before .before .before)) (later (le-leb _ _ (c .before .before .before .if2 .taken)) (later (le-leb _ _ (c .before .before .if3 .taken))
+    (fails (sym (c .before .is-list .ensures) ∙ c .if4 .left))))))
 
 returns-5 : tie.Need-returns-5
 returns-5 c =
-    sym (stopped (accepted tt) (later (counts (c .before .before .before)) (later (le-leb _ _ (c .before .before .if2 .taken))
-    (later (le-leb _ _ (c .before .if3 .taken)) (fails (lt-leb _ _ (c .if4 .left)))))))
-
-returns-6 : tie.Need-returns-6
-returns-6 c =
     sym (stopped (accepted tt) (later (counts (c .before .before)) (later (le-leb _ _ (c .before .if2 .taken)) (fails (lt-leb _ _ (c .if3 .left))))))
 
-returns-7 : tie.Need-returns-7
-returns-7 c = sym (stopped (accepted tt) (later (counts (c .before)) (fails (lt-leb _ _ (c .if2 .left)))))
+returns-6 : tie.Need-returns-6
+returns-6 c = sym (stopped (accepted tt) (later (counts (c .before)) (fails (lt-leb _ _ (c .if2 .left)))))
 
-returns-8 : tie.Need-returns-8
-returns-8 c = sym (stopped (accepted tt) (fails (sym (c .before .is-counted .ensures) ∙ c .if1 .left)))
+returns-7 : tie.Need-returns-7
+returns-7 c = sym (stopped (accepted tt) (fails (sym (c .before .is-counted .ensures) ∙ c .if1 .left)))
 
 pub check-frame-spec : {M : Type 1} → statement M
 check-frame-spec =
     tie.close
     (tie.spec
     is-counted-requires
-    mul-if7
-    mul-if7-2
-    add-if7
-    add-if7-2
-    cast-if7
+    is-list-requires
+    mul-if6
+    mul-if6-2
+    add-if6
+    add-if6-2
     check-words-requires
     returns
     returns-2
@@ -103,5 +106,4 @@ check-frame-spec =
     returns-4
     returns-5
     returns-6
-    returns-7
-    returns-8)
+    returns-7)

@@ -19,11 +19,11 @@ use Rattle.madi_write.proofs.write_frame.Tie as tie
 
 -- what the checks say, where they accept
 all-met : (c : tie.After-check-frame) → c .check-frame .result ≡ Accepted
-    → AllMet (writeDemands (c .before .before .before .args .channels) (c .before .before .before .args .words .now) (c .before .before .before .args .syncs)
-    (c .before .before .before .args .level) (length (c .before .before .before .args .line .now)))
+    → AllMet (writeDemands (c .before .before .before .before .args .channels) (c .before .before .before .before .args .words .now) (c .before .before .before .before .args .commands .now)
+    (c .before .before .before .before .args .level) (length (c .before .before .before .before .args .line .now)))
 all-met c e =
-    let a = c .before .before .before .args in
-    met tt (writeDemands (a .channels) (a .words .now) (a .syncs) (a .level) (length (a .line .now))) (sym (c .check-frame .ensures) ∙ ap verdictSaid e) .0
+    let a = c .before .before .before .before .args in
+    met tt (writeDemands (a .channels) (a .words .now) (a .commands .now) (a .level) (length (a .line .now))) (sym (c .check-frame .ensures) ∙ ap verdictSaid e) .0
 
 check-frame-requires : tie.Need-check-frame-requires
 check-frame-requires c κs = search needs
@@ -34,9 +34,9 @@ enum-told c = search needs
 fill-requires : tie.Need-fill-requires
 fill-requires c κs =
     let k = c .before .before .before in
-    let a = k .before .before .before .args in
-    let w = writable (a .channels) (a .words .now) (a .syncs) (a .level) (length (a .line .now)) (all-met k (c .before .enum-told .given .1)) in
-    (w .digital, w .at-most, w .most, w .short, w .clean, w .fits)
+    let a = k .before .before .before .before .args in
+    let w = writable (a .channels) (a .words .now) (a .commands .now) (a .level) (length (a .line .now)) (all-met k (c .before .enum-told .given .1)) in
+    (w .digital, w .at-most, w .most, w .short, w .named, w .clean, w .fits)
 
 enum-known-answer : tie.Need-enum-known-answer
 enum-known-answer c = search needs
@@ -48,22 +48,22 @@ returns : tie.Need-returns
 unfolding frameWritten
 returns c =
     let k = c .before .before .before .before .before .before in
-    let a = k .before .before .before .args in
+    let a = k .before .before .before .before .args in
     let m = all-met k (c .before .before .before .before .enum-told .given .1) in
-    let w = writable (a .channels) (a .words .now) (a .syncs) (a .level) (length (a .line .now)) m in
-    let frame : List ℕ = frameOctets (a .channels) (a .words .now) (a .syncs) (a .level) in
-    rw (passing (accepted frame) (writeDemands (a .channels) (a .words .now) (a .syncs) (a .level) (length (a .line .now))) m) (
+    let w = writable (a .channels) (a .words .now) (a .commands .now) (a .level) (length (a .line .now)) m in
+    let frame : List ℕ = frameOctets (a .channels) (a .words .now) (a .commands .now) (a .level) in
+    rw (passing (accepted frame) (writeDemands (a .channels) (a .words .now) (a .commands .now) (a .level) (length (a .line .now))) m) (
       refl,
       c .before .before .fill .ensures
-          ∙ ap (λ (n : ℕ). frame ++ drop n (a .line .now)) (sym (length-octets (a .channels) (a .words .now) (a .syncs) (a .level) (w .most))),
+          ∙ ap (λ (n : ℕ). frame ++ drop n (a .line .now)) (sym (length-octets (a .channels) (a .words .now) (a .commands .now) (a .level) (w .most))),
     )
 
 returns-2 : tie.Need-returns-2
 unfolding frameWritten
 returns-2 c =
     let k = c .before .before .before in
-    let a = k .before .before .before .args in
-    let ds = writeDemands (a .channels) (a .words .now) (a .syncs) (a .level) (length (a .line .now)) in
+    let a = k .before .before .before .before .args in
+    let ds = writeDemands (a .channels) (a .words .now) (a .commands .now) (a .level) (length (a .line .now)) in
     let v = c .before .answer .given .0 in
     shows-refusal _ _ _ _ (stops tt ds (v .0) (v .1 .0) (sym (k .check-frame .ensures) ∙ ap verdictSaid (c .before .answer .given .1)))
 

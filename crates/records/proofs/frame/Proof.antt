@@ -17,11 +17,11 @@ use Rattle.records.proofs.frame.Statement.{statement}
 use Rattle.records.proofs.frame.Tie as tie
 
 -- the frame of numbers that the code took out of the octets
-framed : (s : List ℕ) {a l b n : ℕ} {line : List ℕ} → 4 ≤ length s → a ≡ getD s 0 0 → l ≡ getD s 1 0
-    → b ≡ getD s 2 0 * 256 + getD s 3 0 → line ≡ drop 4 s → n ≡ a → mapped frameContent (mapped countsOf (frameRead a l b line n)) ≡ frameRecord s
+framed : (s : List ℕ) {a l b n m : ℕ} {line : List ℕ} → 4 ≤ length s → a ≡ getD s 0 0 → l ≡ getD s 1 0
+    → b ≡ getD s 2 0 * 256 + getD s 3 0 → line ≡ drop 4 s → n ≡ a → m ≡ 255 → mapped frameContent (mapped countsOf (frameRead a l b line n m)) ≡ frameRecord s
 unfolding frameRecord
-framed s h ea el eb ed en =
-    rw (en, ea, el, eb, ed) (sym (passing _ (frameDemands s) (le-leb 4 (length s) h & tt)))
+framed s h ea el eb ed en em =
+    rw (en, ea, el, eb, ed, em) (sym (passing _ (frameDemands s) (le-leb 4 (length s) h & tt)))
 
 returns : tie.Need-returns
 unfolding frameRecord
@@ -57,6 +57,9 @@ cast-bits c = search needs
 no-words-requires : tie.Need-no-words-requires
 no-words-requires c κs = search needs
 
+no-commands-requires : tie.Need-no-commands-requires
+no-commands-requires c κs = search needs
+
 cast-read-frame : tie.Need-cast-read-frame
 cast-read-frame c = search needs
 
@@ -75,6 +78,9 @@ array-borrow-prefix-words c = search needs
 slice-aggregate-read-frame : tie.Need-slice-aggregate-read-frame
 slice-aggregate-read-frame c = sym (length-take-le _ _ (search needs))
 
+slice-aggregate-read-frame-2 : tie.Need-slice-aggregate-read-frame-2
+slice-aggregate-read-frame-2 c = search needs
+
 read-frame-requires : tie.Need-read-frame-requires
 read-frame-requires c κs = search needs
 
@@ -83,8 +89,9 @@ of-frame-requires c κs = search needs
 
 returns-2 : tie.Need-returns-2
 returns-2 c =
-    let r = c .before .before in
-    let w = r .before .before .before in
+    let r = c .before .before .before in
+    let n = r .before .before .before .before in
+    let w = n .before in
     let p = w .before in
     let level = p .before .before .before in
     let count = level .before .before in
@@ -93,7 +100,7 @@ returns-2 c =
     c .of-frame .ensures
     ∙ ap (mapped frameContent) (r .read-frame .ensures .0)
     ∙ framed s (e .if1 .left) (count .octet .ensures .0) (level .octet2 .ensures .0) (p .big-endian .ensures) (to-the-end 4 s)
-    (length-take-le _ _ (search needs))
+    (length-take-le _ _ (search needs)) (n .no-commands .ensures)
 
 pub frame-spec : {M : Type 1} → statement M
 frame-spec =
@@ -110,12 +117,14 @@ frame-spec =
     big-endian-requires
     cast-bits
     no-words-requires
+    no-commands-requires
     cast-read-frame
     sub-read-frame
     part-read-frame-start
     part-read-frame-end
     array-borrow-prefix-words
     slice-aggregate-read-frame
+    slice-aggregate-read-frame-2
     read-frame-requires
     of-frame-requires
     returns-2)

@@ -1,4 +1,4 @@
--- `madi_read::copy` meets its contract: the words passed are those of the source. Assumes nothing.
+-- `madi_read::copies::words` meets its contract: the words passed are those of the source. Assumes nothing.
 use mathlib.Core.Path.{_≡_, sym, ap, _∙_}
 use mathlib.Core.List.{List, [], _∷_, _++_}
 use Prim.Native.Nat.{ℕ, _+_, _-_, _≤_, _<_}
@@ -9,8 +9,8 @@ use borrow.Author.Tests.{le-leb, lt-leb}
 use lib.ListN.{length, take, getD, length-set}
 use lib.Seq.{take-suc, take-suc-set, take-length}
 use Rattle.madi_read.specs.Inner.{copied}
-use Rattle.madi_read.proofs.copy.Statement.{statement}
-use Rattle.madi_read.proofs.copy.Tie as tie
+use Rattle.madi_read.proofs.copies.words.Statement.{statement}
+use Rattle.madi_read.proofs.copies.words.Tie as tie
 
 abbrev Inv-loop : tie.InvT-loop
 Inv-loop src dst₀ i₀ dst i = (i ≤ length dst₀) × (length dst ≡ length dst₀) × (take i dst ≡ take i src)
@@ -68,8 +68,8 @@ returns-2 : tie.Need-returns-2 Inv-loop μ-loop
 unfolding copied
 returns-2 c = rw (lt-leb _ _ (c .if1 .left))
 
-pub copy-spec : {M : Type 1} → statement M
-copy-spec =
+pub words-spec : {M : Type 1} → statement M
+words-spec =
     tie.close
     (tie.spec
     Inv-loop

@@ -1,0 +1,101 @@
+-- `madi_write::is_list` meets its contract: no command passed is above 15. Assumes nothing.
+use mathlib.Core.Path.{_≡_, refl, ap, subst, _∙_}
+use mathlib.Core.Logic.{⊎-elim}
+use mathlib.Core.Bool.{Bool, true, false}
+use Prim.Native.Nat.{ℕ, _-_, _≤_, _<_}
+use native.Mathlib.Omega.{arith}
+use borrow.Author.Needs.{needs}
+use borrow.Author.Tests.{le-leb, lt-leb}
+use lib.ListN.{length, getD}
+use lib.Seq.{take-length}
+use Rattle.bits.proofs.Tests.{order}
+use Rattle.madi_code.specs.Frame.{numbered, synced}
+use Rattle.madi_code.proofs.FrameLaws.{numbered-at, numbered-all}
+use Rattle.madi_write.specs.Writer.{isList}
+use Rattle.madi_write.proofs.is_list.Statement.{statement}
+use Rattle.madi_write.proofs.is_list.Tie as tie
+
+abbrev Inv-loop : tie.InvT-loop
+Inv-loop commands i₀ i = (i ≤ length commands) × ((k : ℕ) → k < i → getD commands k 0 < 16)
+
+abbrev μ-loop : tie.MeasureT-loop
+μ-loop commands i₀ i = length commands - i
+
+not-so : (t : Bool) → (t ≡ true → ⊥) → t ≡ false
+not-so true f = absurd (f refl)
+not-so false f = refl
+
+returns : tie.Need-returns Inv-loop μ-loop
+unfolding isList
+returns c = rw (lt-leb 1 _ (c .if1 .taken))
+
+returns-2 : tie.Need-returns-2 Inv-loop μ-loop
+unfolding isList
+returns-2 c = rw (le-leb 1 _ (c .before .if1 .left), lt-leb _ 255 (c .if2 .taken))
+
+loop-holds : tie.Need-loop-holds Inv-loop μ-loop
+loop-holds c = (omega arith, λ k h. absurd (omega arith))
+
+shared-slice-read-if3 : tie.Need-shared-slice-read-if3 Inv-loop μ-loop
+shared-slice-read-if3 c = search needs
+
+returns-3 : tie.Need-returns-3 Inv-loop μ-loop
+unfolding isList
+returns-3 c =
+    let l = c .before .before .before in
+    let e = l .before in
+    let cs = e .before .before .before .args .commands .now in
+    rw (
+      le-leb 1 _ (e .before .if1 .left),
+      le-leb _ 255 (e .if2 .left),
+      not-so (numbered cs) (λ q. absurd (omega (arith, c .if3 .taken, numbered-at cs q (l .loop .i) (omega arith)))),
+    )
+
+add-i : tie.Need-add-i Inv-loop μ-loop
+add-i c = search needs
+
+loop-less : tie.Need-loop-less Inv-loop μ-loop
+loop-less c = search needs
+
+loop-again : tie.Need-loop-again Inv-loop μ-loop
+loop-again c =
+    let l = c .before .before .before in
+    let cs = l .before .before .before .before .args .commands .now in
+    let i = l .loop .i in (
+      omega arith,
+      λ k h. ⊎-elim (λ (q : i ≤ k). let s : i ≡ k = omega arith in let t : getD cs i 0 < 16 = omega (arith, c .if3 .left) in
+          subst (λ (j : ℕ). getD cs j 0 < 16) s t) (λ (q : k < i). l .loop .inv .1 k q) (order i k),
+    )
+
+has-sync-requires : tie.Need-has-sync-requires Inv-loop μ-loop
+has-sync-requires c κs = search needs
+
+returns-4 : tie.Need-returns-4 Inv-loop μ-loop
+unfolding isList
+returns-4 c =
+    let l = c .before .before in
+    let e = l .before in
+    let cs = e .before .before .before .args .commands .now in
+    rw (
+      le-leb 1 _ (e .before .if1 .left),
+      le-leb _ 255 (e .if2 .left),
+      numbered-all cs (λ k h. l .loop .inv .1 k (omega arith)),
+    )
+    (c .has-sync .ensures ∙ ap synced (take-length cs))
+
+pub is-list-spec : {M : Type 1} → statement M
+is-list-spec =
+    tie.close
+    (tie.spec
+    Inv-loop
+    μ-loop
+    returns
+    returns-2
+    loop-holds
+    shared-slice-read-if3
+    returns-3
+    add-i
+    loop-less
+    loop-again
+    has-sync-requires
+    returns-4)
