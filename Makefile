@@ -3,6 +3,8 @@
 #                  programs, and the C boundary over what was proved; its last line is the verdict of rt ci, given only
 #                  if all passed
 # make boundary    the C boundary: the library beside the second program, call by call, and the example driver
+# make carry       builds build/carry, the longer example, and tries its edges
+# make sound       ten seconds of sound from sox over each carrier and back, whole and damaged
 # make promises    makes docs/WRONG-ANSWERS.md anew, from the sheets of wrong answers
 # make lib         proves the library and builds target/staticlib/liblampcoil.a for C on x86-64
 # make shared      builds build/liblampcoil.so.1 from the archive
@@ -18,7 +20,7 @@
 .NOTPARALLEL:
 .PHONY: report test read alone proofs edits boundary lib program install uninstall bench expected mutants promises clean header second \
 	held hand listed compare flips card installed
-.PHONY: tried shared failing
+.PHONY: tried shared failing carry carry_alone sound
 
 PREFIX = /usr/local
 DESTDIR =
@@ -43,6 +45,7 @@ COMPARE = tests/compare/compare.c tests/compare/edges.c tests/compare/compare_sm
 	tests/compare/compare_talkback.c tests/compare/compare_patch.c tests/compare/compare_leases.c tests/compare/compare_levels.c
 HAND = bench/hand_aes3.c bench/hand_madi.c bench/hand_hd.c bench/hand_talkback.c bench/hand_patch.c \
 	bench/hand_levels.c
+CARRY = examples/carry.c examples/carry_back.c
 
 # ---- the library and the report program
 
@@ -100,7 +103,7 @@ read:
 	tests/papers
 
 # The C programs by themselves.
-alone: header second held hand mutants
+alone: header second held hand carry_alone mutants
 
 # All proofs, wrong answers and programs; and then why each wrong answer was refused.
 proofs:
@@ -109,7 +112,7 @@ proofs:
 edits:
 	tests/edits
 
-boundary: lib listed compare flips card failing installed
+boundary: lib listed compare flips card carry failing installed
 
 promises:
 	@mkdir -p build
@@ -186,6 +189,24 @@ card: $(ARCHIVE)
 	$(X86) cc $(CFLAGS) $(INCLUDES) -o build/card examples/card.c $(ARCHIVE)
 	$(X86) run build/card >build/card.txt
 	cmp build/card.txt examples/card.expected
+
+# The longer example: at its edges, over the second program, watched like it (no memory is taken, so that no leak is
+# looked for, which is slow where many short programs run); and over the library.
+build/sound_tool: tests/sound_tool.c
+	@mkdir -p build
+	$(CC) $(CFLAGS) -o $@ tests/sound_tool.c
+
+carry_alone: build/stand_in.o build/sound_tool
+	$(CC) $(CFLAGS) $$(CC="$(CC)" tests/sanitise) -Iinclude -o build/carry_second $(CARRY) build/stand_in/*.c
+	ASAN_OPTIONS=detect_leaks=0 tests/carry build/sound_tool build/carry_second
+
+carry: $(ARCHIVE) build/sound_tool
+	$(X86) cc $(CFLAGS) -Iinclude -o build/carry $(CARRY) $(ARCHIVE)
+	tests/carry build/sound_tool $(X86) run build/carry
+
+# Beside the gate: docs/SOUND.md says how long it takes.
+sound: carry program
+	tests/sound build "$(X86) kit target/bin/carrier_report" $(X86) run build/carry
 
 # The report program where its output cannot be written or its input not be read.
 failing: program
