@@ -174,3 +174,17 @@ pub beyond : {d : Demand} {ds : List Demand} {number place : ℕ} → Met d → 
 beyond m (fails {t} f) = no-yes t f m
 beyond m (found {i} {p} l u t before) = no-yes (p i) (m i l u) t
 beyond m (later m′ s) = s
+
+-- ---- two lists of demands, one after the other
+
+pub past : (ds : List Demand) {es : List Demand} {number place : ℕ} → AllMet ds → Stops es number place → Stops (ds ++ es) number place
+past [] m s = s
+past (d ∷ ds) m s = later (m .0) (past ds (m .1) s)
+
+pub both-met : (ds es : List Demand) → AllMet ds → AllMet es → AllMet (ds ++ es)
+both-met [] es m n = n
+both-met (d ∷ ds) es m n = (m .0, both-met ds es (m .1) n)
+
+pub parts-met : (ds es : List Demand) → AllMet (ds ++ es) → AllMet ds × AllMet es
+parts-met [] es m = (tt, m)
+parts-met (d ∷ ds) es m = let r = parts-met ds es (m .1) in ((m .0, r .0), r .1)

@@ -9,12 +9,14 @@ use lib.ListN.{length, getD}
 use Rattle.bits.specs.Row.{Below}
 use Rattle.answer.specs.Answer.{Answer.accepted}
 use Rattle.answer.specs.Demand.{Demand.asks, Demand.findsNone, AllMet, _&_}
-use Rattle.anc.specs.Word.{wrongAt}
+use Rattle.answer.proofs.Chains.{both-met}
+use Rattle.anc.specs.Word.{parities, wrongAt}
 use Rattle.anc.specs.Head.{headDemands}
+use Rattle.anc.specs.Enclosed.{sumStands}
 use Rattle.codes.specs.Lanes.{checkOctets}
 use Rattle.codes.proofs.CheckLaws.{checks-satisfy}
 use Rattle.codes.proofs.RepairedLanes.{satisfied-passes}
-use Rattle.hd_packet.specs.Packet.{octetsOf, packetOf, sumRight, groupOfDid, packetHead, dataOctets, fieldsIn, bodiesIn, spareDemands, oddBody}
+use Rattle.hd_packet.specs.Packet.{octetsOf, packetOf, groupOfDid, packetHead, dataOctets, fieldsIn, bodiesIn, spareDemands, oddBody}
 use Rattle.hd_packet.specs.declared.Fields.{Fields}
 use Rattle.hd_packet.proofs.PacketLaws.{length-packet}
 use Rattle.hd_packet.proofs.Laid.{length-data, fields-back, spares-clear}
@@ -23,7 +25,7 @@ use Rattle.hd_packet.proofs.Words.{narrow, right-words, right-sum, group-named,
 use Rattle.hd_write.specs.Write.{writeAnswer, packetWritten}
 use Rattle.hd_write.proofs.WriteLaws.{writtenOctets, length-written, packet-of-octets, written-below, written-octets, Accepted, accepting, clear-body}
 use Rattle.hd_read.specs.Read.{wordDemands, octetDemands, readDemands, readAnswer}
-use Rattle.hd_read.proofs.ReadLaws.{both-met, reads}
+use Rattle.hd_read.proofs.ReadLaws.{reads}
 
 module _ (f : Fields) (bodies : List ℕ) (below : Below (2 ^ 32) bodies) (a : Accepted f bodies) where
   abbrev cs : List ℕ
@@ -50,7 +52,7 @@ module _ (f : Fields) (bodies : List ℕ) (below : Below (2 ^ 32) bodies) (a : A
   words-met : AllMet (wordDemands packet)
   words-met =
       (λ k z l. narrow xs long small k (omega (arith, length-packet xs long)))
-      & both-met (headDemands (packetHead packet) packet) (findsNone 14 (wrongAt packet) 3 27 ∷ asks 16 30 (sumRight packet) ∷ [])
+      & both-met (headDemands (packetHead packet) packet) (findsNone 14 (wrongAt parities packet) 3 27 ∷ asks 16 30 (sumStands 27 packet) ∷ [])
       (head-stands f bodies cs (a .within) long)
       ((λ k z l. right-words xs long small k z (omega arith)) & right-sum xs long small & tt)
 

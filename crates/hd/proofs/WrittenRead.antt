@@ -9,12 +9,14 @@ use lib.ListN.{length, getD, take, drop, take-append-drop}
 use Rattle.bits.specs.Row.{Below}
 use Rattle.answer.specs.Answer.{Answer.accepted}
 use Rattle.answer.specs.Demand.{Demand.asks, Demand.findsNone, AllMet}
-use Rattle.anc.specs.Word.{wideAt, wrongAt}
+use Rattle.answer.proofs.Chains.{parts-met}
+use Rattle.anc.specs.Word.{parities, wideAt, wrongAt}
 use Rattle.anc.specs.Head.{headDemands}
+use Rattle.anc.specs.Enclosed.{sumStands}
 use Rattle.codes.specs.Lanes.{checkOctets}
 use Rattle.codes.proofs.CheckLaws.{satisfied-checks}
 use Rattle.codes.proofs.RepairedLanes.{passes-satisfied}
-use Rattle.hd_packet.specs.Packet.{octetsOf, packetOf, sumRight, groupOfDid, packetHead, dataOctets, fieldsIn, bodyAt, bodiesIn, spareDemands, oddBody}
+use Rattle.hd_packet.specs.Packet.{octetsOf, packetOf, groupOfDid, packetHead, dataOctets, fieldsIn, bodyAt, bodiesIn, spareDemands, oddBody}
 use Rattle.hd_packet.specs.declared.Fields.{Fields}
 use Rattle.hd_packet.proofs.PacketLaws.{length-octets, octets-below}
 use Rattle.hd_packet.proofs.Channels.{body-in, body-low, four-bodies}
@@ -23,7 +25,7 @@ use Rattle.hd_packet.proofs.Words.{same-words, group-read, head-octets}
 use Rattle.hd_write.specs.Write.{lowBody, writeAnswer, packetWritten}
 use Rattle.hd_write.proofs.WriteLaws.{low-false, packet-of-octets, Accepted, accepts}
 use Rattle.hd_read.specs.Read.{wordDemands, octetDemands, readDemands, readAnswer}
-use Rattle.hd_read.proofs.ReadLaws.{parts-met, read-met}
+use Rattle.hd_read.proofs.ReadLaws.{read-met}
 
 module _ (words : List ℕ) (met : AllMet (readDemands words 4)) where
   abbrev os : List ℕ
@@ -40,9 +42,9 @@ module _ (words : List ℕ) (met : AllMet (readDemands words 4)) where
   halves : AllMet (wordDemands words) × AllMet (octetDemands os)
   halves = parts-met (wordDemands words) (octetDemands os) (met .1 .1)
 
-  of-words : AllMet (headDemands (packetHead words) words) × AllMet (findsNone 14 (wrongAt words) 3 27 ∷ asks 16 30 (sumRight words) ∷ [])
+  of-words : AllMet (headDemands (packetHead words) words) × AllMet (findsNone 14 (wrongAt parities words) 3 27 ∷ asks 16 30 (sumStands 27 words) ∷ [])
   of-words =
-      parts-met (headDemands (packetHead words) words) (findsNone 14 (wrongAt words) 3 27 ∷ asks 16 30 (sumRight words) ∷ []) (halves .0 .1)
+      parts-met (headDemands (packetHead words) words) (findsNone 14 (wrongAt parities words) 3 27 ∷ asks 16 30 (sumStands 27 words) ∷ []) (halves .0 .1)
 
   of-octets : AllMet (spareDemands os) × AllMet (findsNone 9 (oddBody (bodiesIn os)) 0 4 ∷ [])
   of-octets = parts-met (spareDemands os) (findsNone 9 (oddBody (bodiesIn os)) 0 4 ∷ []) (halves .1 .1)
@@ -53,7 +55,7 @@ module _ (words : List ℕ) (met : AllMet (readDemands words 4)) where
   ten : (k : ℕ) → k < 31 → wideAt words k ≡ false
   ten k l = halves .0 .0 k (omega arith) (omega (arith, long))
 
-  worded : (k : ℕ) → 3 ≤ k → k < 30 → wrongAt words k ≡ false
+  worded : (k : ℕ) → 3 ≤ k → k < 30 → wrongAt parities words k ≡ false
   worded k q l = of-words .1 .0 k q (omega arith)
 
   os-long : length os ≡ 30
@@ -82,7 +84,7 @@ module _ (words : List ℕ) (met : AllMet (readDemands words 4)) where
       let g = group-read words long ten (of-words .0) worded (of-words .1 .1 .0) in
       record {
         four = four-bodies os;
-        within = read-ranges os os-long small (of-octets .0) group (g .some) (g .four);
+        within = read-ranges os os-long small (of-octets .0) group (g .some) (g .few);
         evens = λ n l. of-octets .1 .0 n (omega arith) (omega arith);
         clear = clear;
       }
