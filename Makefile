@@ -37,13 +37,13 @@ ARCHIVE = target/staticlib/liblampcoil.a
 X86 = tests/on-x86
 
 SECOND = tests/second/second.c tests/second/second_status.c tests/second/second_length.c tests/second/second_aes3.c tests/second/second_madi.c \
-	tests/second/second_hd.c tests/second/second_talkback.c \
+	tests/second/second_hd.c tests/second/second_control.c tests/second/second_talkback.c \
 	tests/second/second_patch.c tests/second/second_leases.c tests/second/second_levels.c
 SPOIL = tests/second/spoil.c
-COMPARE = tests/compare/compare.c tests/compare/edges.c tests/compare/compare_small.c tests/compare/compare_hd.c \
+COMPARE = tests/compare/compare.c tests/compare/edges.c tests/compare/compare_small.c tests/compare/compare_hd.c tests/compare/compare_control.c \
 	tests/compare/compare_madi.c tests/compare/compare_commands.c tests/compare/compare_aes3.c tests/compare/compare_length.c \
 	tests/compare/compare_talkback.c tests/compare/compare_patch.c tests/compare/compare_leases.c tests/compare/compare_levels.c
-HAND = bench/hand_aes3.c bench/hand_madi.c bench/hand_hd.c bench/hand_talkback.c bench/hand_patch.c \
+HAND = bench/hand_aes3.c bench/hand_madi.c bench/hand_hd.c bench/hand_control.c bench/hand_talkback.c bench/hand_patch.c \
 	bench/hand_levels.c
 CARRY = examples/carry.c examples/carry_back.c
 

@@ -30,6 +30,7 @@ lampcoil_verdict hand_madi_patch(uint32_t channels, uint32_t active, const uint8
 lampcoil_verdict hand_hd_write(uint32_t group, uint32_t dbn, uint32_t phase, uint32_t ck12, uint32_t z1, uint32_t z2,
                                const uint32_t *bodies, size_t bodies_len, uint16_t *words, size_t words_len);
 lampcoil_hd_read_answer hand_hd_read(const uint16_t *words, size_t words_len, uint32_t *bodies, size_t bodies_len);
+lampcoil_hd_control_answer hand_hd_control_read(const uint16_t *words, size_t words_len);
 lampcoil_hd_repair_answer hand_hd_repair(const uint16_t *words, size_t words_len, uint16_t *repaired, size_t repaired_len);
 lampcoil_verdict hand_talkback_join(const int32_t *program, size_t program_len, const int32_t *voice, size_t voice_len,
                                     const uint8_t *side, size_t side_len, int32_t *samples, size_t samples_len);

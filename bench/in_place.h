@@ -23,5 +23,6 @@
 #define lampcoil_talkback_join hand_talkback_join
 #define lampcoil_talkback_separate hand_talkback_separate
 #define lampcoil_level_add hand_level_add
+#define lampcoil_hd_control_read hand_hd_control_read
 
 #endif

@@ -102,16 +102,37 @@ static void report_madi(unsigned long n, const uint8_t *p, size_t length)
         report_line(n, " madi ok ", 9, r.active, r.commands);
 }
 
+static void report_control(unsigned long n, const uint8_t *p, size_t length)
+{
+    uint16_t words[18];
+    if (length != 36) {
+        report_refused(n, 1, 0);
+        return;
+    }
+    for (int w = 0; w < 18; w++)
+        words[w] = (uint16_t)(p[2 * w] << 8 | p[2 * w + 1]);
+    lampcoil_hd_control_answer r = hand_hd_control_read(words, 18);
+    if (r.number) {
+        report_refused(n, r.number, r.place);
+        return;
+    }
+    char *t = line + ROOM;
+    *--t = '\n';
+    tell(number(text(number(t, r.group), " ctl ok ", 8), n));
+}
+
 static void report(unsigned long n, const uint8_t *p, size_t length)
 {
-    if (length < 2 || p[0] != 1 || p[1] - 1u > 2)
+    if (length < 2 || p[0] != 1 || p[1] - 1u > 3)
         report_refused(n, 2, 0);
     else if (p[1] == 1)
         report_aes3(n, p + 2, length - 2);
     else if (p[1] == 2)
         report_hd(n, p + 2, length - 2);
-    else
+    else if (p[1] == 3)
         report_madi(n, p + 2, length - 2);
+    else
+        report_control(n, p + 2, length - 2);
 }
 
 int main(void)

@@ -18,9 +18,14 @@ int main(void)
     record_octets(empty, sizeof empty);
     record_octets(single, sizeof single);
     record_put(2, 1, small, 4);
+    record_put(1, 5, small, 4);
     record_put(1, 4, small, 4);
     record_put(1, 2, small, 2);
     record_hd(2, 0, HD_GOOD);
+    for (uint32_t group = 1; group <= 4; group++)
+        record_control(group, CTL_GOOD);
+    for (int way = 1; way < CTL_WAYS; way++)
+        record_control(1 + (uint32_t)way % 4, way);
     record_octets(cut, sizeof cut);
     return ferror(stdout) || fflush(stdout) != 0;
 }

@@ -1,6 +1,6 @@
 /* lampcoil.h: audio samples with their validity, user and channel-status bits, to three carriers and back.
 
-   AES3 blocks on a biphase line, MADI frames, HD-SDI audio data packets with repair. Link with liblampcoil.a: it is for
+   AES3 blocks on a biphase line, MADI frames, HD-SDI audio data packets with repair and audio control packets. Link with liblampcoil.a: it is for
    x86-64 with the calling convention of the System V ABI (Linux and the BSDs; not Windows).
 
    What every entry does
@@ -30,9 +30,9 @@ extern "C" {
 #endif
 
 /* The version of this header and of the library beside it. A larger MAJOR may take something away; MINOR adds. */
-#define LAMPCOIL_VERSION "5.0.0"
+#define LAMPCOIL_VERSION "5.1.0"
 #define LAMPCOIL_VERSION_MAJOR 5
-#define LAMPCOIL_VERSION_MINOR 0
+#define LAMPCOIL_VERSION_MINOR 1
 #define LAMPCOIL_VERSION_PATCH 0
 
 /* Numbers that come back, and what their place is; lampcoil_refusal_text tells when each is given. */
@@ -52,7 +52,7 @@ extern "C" {
 #define LAMPCOIL_REFUSED_HEADER 13u      /* place: word */
 #define LAMPCOIL_REFUSED_WORD 14u        /* place: word */
 #define LAMPCOIL_REFUSED_LANE 15u        /* place: lane; at lane_repair 0 */
-#define LAMPCOIL_REFUSED_CHECKSUM 16u    /* place: 30 */
+#define LAMPCOIL_REFUSED_CHECKSUM 16u    /* place: the last word, 30; at hd_control_read 17 */
 #define LAMPCOIL_REFUSED_NO_START 17u
 #define LAMPCOIL_REFUSED_WORD_LENGTH 18u /* place: sample index */
 #define LAMPCOIL_REFUSED_UNDECLARED 19u  /* place: channel */
@@ -108,6 +108,7 @@ static inline const char *lampcoil_refusal_text(uint32_t number)
 #define LAMPCOIL_LEASE_MOVES 128u
 #define LAMPCOIL_PACKET_WORDS 31u
 #define LAMPCOIL_PACKET_BODIES 4u
+#define LAMPCOIL_CONTROL_WORDS 18u
 #define LAMPCOIL_SHEET_NUMBERS 20u
 
 /* Where the columns of a side table begin: 24 octets each; bit i of octet j belongs to frame 8j+i, bit 0 has weight 1.
@@ -412,6 +413,37 @@ lampcoil_lane lampcoil_lane_repair(uint32_t lane);
    count, and the next after 0 is 0. lampcoil_hd_write and lampcoil_hd_read take any of 0 to 255. RANGE above 255. */
 typedef struct { uint32_t number, place, dbn; } lampcoil_dbn;
 lampcoil_dbn lampcoil_hd_next_dbn(uint32_t dbn);
+
+/* ---- HD audio control packet: 18 words of ten bits, one packet for the four channels of a group. Repair does not take
+   it. ---- */
+
+/* Rate codes; 3 to 6 are reserved. */
+#define LAMPCOIL_CONTROL_48_KHZ 0u
+#define LAMPCOIL_CONTROL_44_1_KHZ 1u
+#define LAMPCOIL_CONTROL_32_KHZ 2u
+#define LAMPCOIL_CONTROL_FREE_RUNNING 7u
+
+/* Writes the control packet of a group, 1 to 4: the number of the audio frame, 0 where there is none; the rate code;
+   whether the use is asynchronous; the active channels, the first of the group at weight 1; and for channels 1 and 2,
+   and for 3 and 4, a delay in sample intervals, positive where the picture leads, and whether it is valid. A delay that
+   is not valid need not be 0.
+   Order: LENGTH (18 words), RANGE (group, frame to 511, rate to 7, active to 15, the flags to 1, delays -33,554,432 to
+   33,554,431), STATE at word 6 (a frame number in asynchronous use), STATE at word 7 (a reserved rate code). */
+lampcoil_verdict lampcoil_hd_control_write(uint32_t group, uint32_t frame, uint32_t rate, uint32_t asynchronous,
+                                           uint32_t active, uint32_t valid12, int32_t delay12,
+                                           uint32_t valid34, int32_t delay34, uint16_t *words, size_t words_len);
+
+/* The same back.
+   Order: LENGTH (18 words), WORD (above 1,023), HEADER (words 0, 1, 2, 3, 5), WORD (b8 and b9 of words 3 to 16),
+   CHECKSUM (word 17), STATE (word 4 not 200h; word 6, a frame number in asynchronous use; word 7, a bit of b4 to b7 or a
+   reserved code; word 8, a bit of b4 to b7; words 15 and 16, a bit of b0 to b8). */
+typedef struct {
+    uint32_t number, place, group, frame, rate, asynchronous, active, valid12;
+    int32_t delay12;
+    uint32_t valid34;
+    int32_t delay34;
+} lampcoil_hd_control_answer;
+lampcoil_hd_control_answer lampcoil_hd_control_read(const uint16_t *words, size_t words_len);
 
 /* ---- Level sheet: figures on any number of blocks, for each channel. ---- */
 

@@ -243,6 +243,29 @@ static void test_packet(void)
     GIVES(lampcoil_hd_repair(packet, w, repaired, w), LAMPCOIL_REFUSED_LANE);
 }
 
+static lampcoil_verdict write_control(uint32_t rate, size_t words_len)
+{
+    return lampcoil_hd_control_write(1, 0, rate, 1, 15, 1, -1, 0, 0, packet, words_len);
+}
+
+static void test_control(void)
+{
+    const size_t w = LAMPCOIL_CONTROL_WORDS;
+    static const uint32_t rate[] = {LAMPCOIL_CONTROL_48_KHZ, LAMPCOIL_CONTROL_44_1_KHZ, LAMPCOIL_CONTROL_32_KHZ,
+                                    LAMPCOIL_CONTROL_FREE_RUNNING};
+    GIVES(write_control(LAMPCOIL_CONTROL_48_KHZ, w - 1), LAMPCOIL_REFUSED_LENGTH);
+    GIVES(write_control(LAMPCOIL_CONTROL_48_KHZ, w + 1), LAMPCOIL_REFUSED_LENGTH);
+    for (int k = 0; k < 4; k++) {
+        GIVES(write_control(rate[k], w), LAMPCOIL_ACCEPTED);
+        EXPECT(packet[7] == (0x201 | "\0\1\2\7"[k] << 1));
+    }
+    for (uint32_t k = LAMPCOIL_CONTROL_32_KHZ + 1; k < LAMPCOIL_CONTROL_FREE_RUNNING; k++)
+        GIVES(write_control(k, w), LAMPCOIL_REFUSED_STATE);
+    GIVES(lampcoil_hd_control_read(packet, w - 1), LAMPCOIL_REFUSED_LENGTH);
+    GIVES(lampcoil_hd_control_read(packet, w), LAMPCOIL_ACCEPTED);
+    GIVES(lampcoil_hd_repair(packet, w, repaired, w), LAMPCOIL_REFUSED_LENGTH);
+}
+
 /* A state of bytes 0 to 2 and what the field at an offset of the meaning must then hold. */
 typedef struct { uint8_t byte, bits; size_t field; uint32_t state; } row;
 
@@ -359,6 +382,7 @@ int main(void)
     test_verdicts();
     test_leases();
     test_packet();
+    test_control();
     test_status();
     test_sheet();
     test_texts();

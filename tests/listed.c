@@ -531,6 +531,29 @@ static void test_levels(void)
     expect(lampcoil_level_add(s, 20, samples, 383, side, 192).number == 1, "383 samples");
 }
 
+/* A control packet worked out by the tables of BT.1365, section 6; and document 02's refusals. */
+static void test_control(void)
+{
+    static const uint16_t worked[18] = {0x000, 0x3FF, 0x3FF, 0x2E2, 0x200, 0x10B, 0x12C, 0x20E, 0x107, 0x203, 0x200, 0x200,
+                                        0x1FE, 0x1FF, 0x1FF, 0x200, 0x200, 0x22D};
+    uint16_t w[18];
+    expect(lampcoil_hd_control_write(2, 300, 7, 0, 7, 1, 1, 0, -1, w, 18).number == 0, "control packet");
+    expect(memcmp(w, worked, sizeof w) == 0, "control packet word by word");
+    lampcoil_hd_control_answer r = lampcoil_hd_control_read(worked, 18);
+    expect(r.number == 0 && r.group == 2 && r.frame == 300 && r.rate == 7 && r.asynchronous == 0 && r.active == 7, "control packet read");
+    expect(r.valid12 == 1 && r.delay12 == 1 && r.valid34 == 0 && r.delay34 == -1, "its delays read");
+    lampcoil_verdict v = lampcoil_hd_control_write(2, 300, 7, 1, 7, 1, 1, 0, -1, w, 18);
+    expect(v.number == 12 && v.place == 6, "a frame number in asynchronous use");
+    v = lampcoil_hd_control_write(2, 300, 3, 0, 7, 1, 1, 0, -1, w, 18);
+    expect(v.number == 12 && v.place == 7, "a reserved rate code");
+    v = lampcoil_hd_control_write(2, 0, 3, 0, 7, 1, 33554432, 0, -1, w, 18);
+    expect(v.number == 2 && v.place == 0, "a delay of 27 bits");
+    w[17] ^= 1;
+    r = lampcoil_hd_control_read(w, 18);
+    expect(r.number == 16 && r.place == 17, "the last word of a control packet");
+    expect(lampcoil_hd_repair(worked, 18, w, 18).number == 1, "repair does not take it");
+}
+
 int main(void)
 {
     test_bodies();
@@ -551,6 +574,7 @@ int main(void)
     test_aligned();
     test_talkback();
     test_levels();
+    test_control();
     printf("listed: %d passed, %d failed\n", passed, failed);
     return failed != 0;
 }

@@ -229,6 +229,7 @@ int main(int argc, char **argv)
     }
     compare_small(cases);
     compare_hd(cases);
+    compare_control(cases / 4);
     compare_madi(cases);
     compare_aes3(cases);
     compare_talkback(cases);

@@ -64,6 +64,7 @@ void compare_commands(void);
 void compare_patch(uint32_t cases);
 void compare_leases(uint32_t cases);
 void compare_hd(uint32_t cases);
+void compare_control(uint32_t cases);
 void compare_talkback(uint32_t cases);
 void compare_levels(uint32_t cases);
 

@@ -21,6 +21,7 @@ static const struct { const char *entry, *argument; } slices[] = {
     {"madi_write", "commands"}, {"madi_read", "commands"},
     {"madi_read", "line"},      {"madi_read", "words"},     {"hd_write", "bodies"},    {"hd_write", "words"},
     {"hd_read", "words"},       {"hd_read", "bodies"},      {"hd_repair", "words"},    {"hd_repair", "repaired"},
+    {"hd_control_write", "words"}, {"hd_control_read", "words"},
     {"talkback_join", "program"},      {"talkback_join", "voice"},       {"talkback_join", "side"},
     {"talkback_join", "samples"},      {"talkback_separate", "samples"}, {"talkback_separate", "side"},
     {"talkback_separate", "program"},  {"talkback_separate", "voice"},

@@ -24,7 +24,7 @@ static void odd_record(void)
         record_put(1, (int)any, few, n);
         break;
     default:
-        record_put(1, 1 + (int)(any % 3), few, n);
+        record_put(1, 1 + (int)(any % 4), few, n);
         break;
     }
 }
@@ -43,8 +43,10 @@ int main(int argc, char **argv)
         uint32_t kind = record_below(32), group = 1 + record_below(4), dbn = record_below(256), channels = record_below(2) == 0 ? 56 : 64;
         if (kind < 2)
             record_aes3(way_of(AES3_WAYS));
-        else if (kind < 16)
+        else if (kind < 12)
             record_hd(group, dbn, way_of(HD_WAYS));
+        else if (kind < 16)
+            record_control(group, way_of(CTL_WAYS));
         else if (kind < 29)
             record_madi(channels, way_of(MADI_WAYS));
         else

@@ -136,6 +136,51 @@ void record_hd(uint32_t group, uint32_t dbn, int way)
     record_put(1, 2, payload, way == HD_SHORT ? 61 : 62);
 }
 
+/* The last word of a control packet, from those before it. */
+static void close_control(uint16_t words[18])
+{
+    uint32_t sum = 0;
+    for (int w = 3; w < 17; w++)
+        sum = (sum + words[w]) & 0x1FFu;
+    words[17] = (uint16_t)(sum & 0x100u ? sum : sum | 0x200);
+}
+
+static void spoil_control(uint16_t words[18], int way)
+{
+    if (way == CTL_ABOVE)
+        words[record_below(18)] |= 0x400;
+    if (way == CTL_HEADER)
+        words[record_below(4)] ^= 0x10;
+    if (way == CTL_WORD)
+        words[6 + record_below(11)] ^= 0x200;
+    if (way == CTL_CHECKSUM)
+        words[17] ^= 0x001;
+    if (way == CTL_FRAME)
+        words[7] |= 1;
+    if (way == CTL_RATE)
+        words[7] = (uint16_t)((words[7] & ~14u) | (3 + record_below(4)) << 1);
+    if (way == CTL_ZERO)
+        words[16] |= (uint16_t)(1u << record_below(8));
+    if (way == CTL_FRAME || way == CTL_RATE || way == CTL_ZERO)
+        close_control(words);
+}
+
+void record_control(uint32_t group, int way)
+{
+    uint16_t words[18];
+    uint8_t payload[36];
+    uint32_t asynchronous = way == CTL_ASYNCHRONOUS, frame = asynchronous == 1 ? 0 : 1 + record_below(511);
+    uint32_t active = record_below(16), valid12 = record_below(2), valid34 = record_below(2);
+    int32_t delay12 = (int32_t)(record_below(65536) * 1024u) - 33554432, delay34 = (int32_t)record_below(4096) - 2048;
+    second_hd_control_write(group, frame, record_below(3), asynchronous, active, valid12, delay12, valid34, delay34, words, 18);
+    spoil_control(words, way);
+    for (int w = 0; w < 18; w++) {
+        payload[2 * w] = (uint8_t)(words[w] / 256);
+        payload[2 * w + 1] = (uint8_t)(words[w] % 256);
+    }
+    record_put(1, 4, payload, way == CTL_SHORT ? 35 : 36);
+}
+
 /* The line bits of a frame. */
 static void frame_row(spoil_row *r, uint32_t channels, int way)
 {

@@ -27,8 +27,13 @@ enum {
     MADI_BITS /* 2 */, MADI_SPARE /* 2 */, MADI_SHORT /* 1 */, MADI_NO_SYNC /* 10 */, MADI_GROUP /* 11 */, MADI_STATE /* 12 */,
     MADI_PARITY /* 9 */, MADI_HEADLESS /* 1 */, MADI_WAYS
 };
+enum {
+    CTL_GOOD, CTL_ASYNCHRONOUS /* accepted */, CTL_ABOVE /* 14 */, CTL_HEADER /* 13 */, CTL_WORD /* 14 */, CTL_CHECKSUM /* 16 */,
+    CTL_FRAME /* 12 at 6 */, CTL_RATE /* 12 at 7 */, CTL_ZERO /* 12 at 16 */, CTL_SHORT /* 1 */, CTL_WAYS
+};
 void record_aes3(int way);
 void record_hd(uint32_t group, uint32_t dbn, int way);
+void record_control(uint32_t group, int way);
 void record_madi(uint32_t channels, int way);
 
 #endif

@@ -54,16 +54,34 @@ static void report_madi(unsigned long n, const uint8_t *payload, size_t length)
         printf("%lu madi ok %u %u\n", n, (unsigned)r.active, (unsigned)r.commands);
 }
 
+static void report_control(unsigned long n, const uint8_t *payload, size_t length)
+{
+    uint16_t words[18];
+    if (length != 36) {
+        refused(n, 1, 0);
+        return;
+    }
+    for (int w = 0; w < 18; w++)
+        words[w] = (uint16_t)(payload[2 * w] * 256 + payload[2 * w + 1]);
+    second_hd_control_answer r = second_hd_control_read(words, 18);
+    if (r.number != 0)
+        refused(n, r.number, r.place);
+    else
+        printf("%lu ctl ok %u\n", n, (unsigned)r.group);
+}
+
 static void report_record(unsigned long n, const uint8_t *record, size_t length)
 {
-    if (length < 2 || record[0] != 1 || record[1] < 1 || record[1] > 3)
+    if (length < 2 || record[0] != 1 || record[1] < 1 || record[1] > 4)
         refused(n, 2, 0);
     else if (record[1] == 1)
         report_aes3(n, record + 2, length - 2);
     else if (record[1] == 2)
         report_hd(n, record + 2, length - 2);
-    else
+    else if (record[1] == 3)
         report_madi(n, record + 2, length - 2);
+    else
+        report_control(n, record + 2, length - 2);
 }
 
 int main(void)

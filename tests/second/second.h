@@ -40,6 +40,12 @@ typedef struct { uint32_t number, place, active, commands; } second_madi_read_an
 typedef struct { uint32_t number, place; uint64_t slots; } second_lease;
 typedef struct { uint32_t number, place, leased; } second_lease_closed;
 typedef struct { uint32_t number, place, group, dbn, phase, ck12, z1, z2; } second_hd_read_answer;
+typedef struct {
+    uint32_t number, place, group, frame, rate, asynchronous, active, valid12;
+    int32_t delay12;
+    uint32_t valid34;
+    int32_t delay34;
+} second_hd_control_answer;
 typedef struct { uint32_t number, place, lanes; } second_hd_repair_answer;
 typedef struct { uint32_t number, place, lane; } second_lane;
 typedef struct { uint32_t number, place, dbn; } second_dbn;
@@ -85,6 +91,11 @@ second_hd_read_answer second_hd_read(const uint16_t *words, size_t words_len, ui
 second_hd_repair_answer second_hd_repair(const uint16_t *words, size_t words_len, uint16_t *repaired, size_t repaired_len);
 second_lane second_lane_repair(uint32_t lane);
 second_dbn second_hd_next_dbn(uint32_t dbn);
+
+second_verdict second_hd_control_write(uint32_t group, uint32_t frame, uint32_t rate, uint32_t asynchronous, uint32_t active,
+                                       uint32_t valid12, int32_t delay12, uint32_t valid34, int32_t delay34,
+                                       uint16_t *words, size_t words_len);
+second_hd_control_answer second_hd_control_read(const uint16_t *words, size_t words_len);
 
 second_verdict second_level_start(int64_t *sheet, size_t sheet_len);
 second_verdict second_level_add(int64_t *sheet, size_t sheet_len, const int32_t *samples, size_t samples_len, const uint8_t *side,

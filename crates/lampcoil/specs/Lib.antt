@@ -1,3 +1,4 @@
 pub mod Status
 pub mod Told
+pub mod Control
 pub mod Slots

@@ -27,6 +27,7 @@ ghost use Rattle.lampcoil.specs.Status.{rightAnswer, meaningAnswer};
 ghost use Rattle.lampcoil.specs.Told.{toldVerdict, toldNumber, toldBody, toldMeaning, toldBlock, toldStart, toldFrame, toldPacket, fieldsLent};
 
 mod answers;
+mod control;
 mod lease;
 mod level;
 mod patch;

@@ -11,19 +11,24 @@ use Rattle.aes3_read.specs.Reader.{readAnswer as blockAnswer, crccs}
 use Rattle.hd_packet.specs.declared.Fields.{Fields}
 use Rattle.hd_read.specs.Read.{readAnswer as packetAnswer, fieldsRead}
 use Rattle.madi_read.specs.Reader.{frameRead, countsOf}
+use Rattle.hd_control.specs.declared.Control.{Control}
+use Rattle.hd_control.specs.Read.{readAnswer as controlAnswer}
 use Rattle.records.specs.declared.Outcome.{Outcome}
-use Rattle.records.specs.declared.Outcome.the-variants.{Aes3, Hd, Madi, Refused}
+use Rattle.records.specs.declared.Outcome.the-variants.{Aes3, Hd, Madi, Ctl, Refused}
 
--- what is answered of an accepted record: whether the CRCC of A and of B is right; group and DBN; active and command count
+-- what is answered of an accepted record: whether the CRCC of A and of B is right; group and DBN; active and command count; the group of a
+-- control packet
 pub data Content : Type 0 where
   aes3 : (a b : ℕ) → Content
   hd : (group dbn : ℕ) → Content
   madi : (active commands : ℕ) → Content
+  ctl : (group : ℕ) → Content
 
 abbrev pub outcomeSaid : Outcome → Answer Content
 outcomeSaid (Aes3 a b) = accepted (Content.aes3 a b)
 outcomeSaid (Hd group dbn) = accepted (Content.hd group dbn)
 outcomeSaid (Madi active commands) = accepted (Content.madi active commands)
+outcomeSaid (Ctl group) = accepted (Content.ctl group)
 outcomeSaid (Refused number place) = refused number place
 
 -- ---- kind 1: an AES3 block
@@ -65,6 +70,17 @@ frameRecord payload =
     (mapped frameContent (mapped countsOf
     (frameRead (getD payload 0 0) (getD payload 1 0) (getD payload 2 0 * 256 + getD payload 3 0) (drop 4 payload) (getD payload 0 0) 255)))
 
+-- ---- kind 4: a control packet, 36 octets, likewise
+
+abbrev pub controlContent : Control → Content
+controlContent c = Content.ctl (c .group)
+
+abbrev pub controlDemands : List ℕ → List Demand
+controlDemands payload = asks 1 0 (eqb (length payload) 36) ∷ []
+
+unfoldable pub controlRecord : List ℕ → Answer Content
+controlRecord payload = provided (controlDemands payload) (mapped controlContent (controlAnswer (bigEndian payload)))
+
 -- ---- any kind
 
 -- a length below 2, an unknown version: 2
@@ -81,7 +97,8 @@ byKind kind payload =
     pick (eqb kind 1) (blockRecord payload)
     (pick (eqb kind 2) (packetRecord payload)
     (pick (eqb kind 3) (frameRecord payload)
-    (refused 2 0)))
+    (pick (eqb kind 4) (controlRecord payload)
+    (refused 2 0))))
 
 unfoldable pub recordAnswer : List ℕ → Answer Content
 recordAnswer body = provided (kindDemands body) (byKind (getD body 1 0) (drop 2 body))

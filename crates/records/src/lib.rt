@@ -8,8 +8,9 @@ ghost use Rattle.answer.specs.Said.{numberSaid};
 ghost use Rattle.aes3_read.specs.Reader.{blockSaid};
 ghost use Rattle.hd_read.specs.Read.{packetSaid};
 ghost use Rattle.madi_read.specs.Reader.{frameSaid};
+ghost use Rattle.hd_control.specs.Read.{controlSaid};
 ghost use Rattle.records.specs.Head.{sizeOf, bodySize, turnOf};
-ghost use Rattle.records.specs.Record.{outcomeSaid, blockContent, blockRecord, packetContent, packetRecord, bigEndian, frameContent, frameRecord, kindOf, byKind, recordAnswer};
+ghost use Rattle.records.specs.Record.{outcomeSaid, blockContent, blockRecord, packetContent, packetRecord, bigEndian, frameContent, frameRecord, controlContent, controlRecord, kindOf, byKind, recordAnswer};
 use answer::NumberAnswer;
 
 // The input ends; it is cut; the record is too long; there is a record to judge. With each, how many records are
@@ -21,11 +22,12 @@ pub enum Turn {
     Record(u64),
 }
 
-// What a record comes to: the two values of its kind, or a refusal's number and place.
+// What a record comes to: the values of its kind, or a refusal's number and place.
 pub enum Outcome {
     Aes3 { a: u32, b: u32 },
     Hd { group: u32, dbn: u32 },
     Madi { active: u32, commands: u32 },
+    Ctl { group: u32 },
     Refused { number: u32, place: u32 },
 }
 
@@ -134,11 +136,11 @@ fn big_endian(a: u8, b: u8) -> u16
 
 // The words of twice as many octets.
 fn fill_words(octets: &[u8], words: &mut [u16])
-    requires { ⌜ (length (now octets) ≡ 62) × (length (now words) ≡ 31) ⌝ }
+    requires { ⌜ length (now octets) ≡ length (now words) * 2 ⌝ }
     ensures { λ _. ⌜ now (words .exit) ≡ bigEndian (now (octets .entry)) ⌝ }
 {
     let mut i = 0;
-    while i < 31 {
+    while i < words.len() {
         words[i] = big_endian(octets[i * 2], octets[i * 2 + 1]);
         i += 1;
     }
@@ -218,6 +220,37 @@ fn frame(octets: &[u8]) -> Outcome
     ))
 }
 
+// ---- kind 4: a control packet of 18 words, likewise
+
+fn no_control() -> [u16; 18]
+    ensures { λ r. ⌜ length r ≡ 18 ⌝ }
+{
+    [0; 18]
+}
+
+fn of_control(answer: hd_control::ControlAnswer) -> Outcome
+    ensures { λ r. ⌜ outcomeSaid r ≡ mapped controlContent (controlSaid answer) ⌝ }
+{
+    match answer {
+        hd_control::ControlAnswer::Read(c) => Outcome::Ctl { group: c.group },
+        hd_control::ControlAnswer::Refused { number, place } => Outcome::Refused { number, place },
+    }
+}
+
+fn control(octets: &[u8]) -> Outcome
+    ensures { λ r. ⌜ outcomeSaid r ≡ controlRecord (now (octets .entry)) ⌝ }
+{
+    if octets.len() != 36 {
+        return Outcome::Refused {
+            number: 1,
+            place: 0,
+        };
+    }
+    let mut words = no_control();
+    fill_words(octets, &mut words);
+    of_control(hd_control::read_control(&words))
+}
+
 // ---- any kind
 
 // The octet that gives the kind; refusal 2 for fewer than two octets or an unknown version.
@@ -246,6 +279,7 @@ fn by_kind(kind: u32, payload: &[u8]) -> Outcome
         1 => block(payload),
         2 => packet(payload),
         3 => frame(payload),
+        4 => control(payload),
         _ => Outcome::Refused {
             number: 2,
             place: 0,

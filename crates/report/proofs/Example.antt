@@ -5,7 +5,7 @@ use Prim.Native.Nat.{ℕ}
 use native.Mathlib.Omega.{arith}
 use Rattle.records.proofs.HeadLaws.{size-is}
 use Rattle.records.proofs.RecordLaws.{kind-is, packet-short}
-use Rattle.report.specs.Text.{digits, decimal, pairText, answerText, lineOf, countLine}
+use Rattle.report.specs.Text.{digits, decimal, singleText, pairText, answerText, lineOf, countLine}
 use Rattle.report.specs.Report.{reportOn, reportOf}
 
 -- carrier report 1 / 1 refused 1 0 / records 1
@@ -16,7 +16,7 @@ threeLines =
     ∷ 114 ∷ 101 ∷ 99 ∷ 111 ∷ 114 ∷ 100 ∷ 115 ∷ 32 ∷ 49 ∷ 10 ∷ []
 
 pub example : reportOf (0 ∷ 0 ∷ 0 ∷ 4 ∷ 1 ∷ 2 ∷ 0 ∷ 0 ∷ []) ≡ threeLines
-unfolding reportOf reportOn lineOf answerText pairText countLine decimal digits
+unfolding reportOf reportOn lineOf answerText pairText countLine singleText decimal digits
 example =
     let body : List ℕ = 1 ∷ 2 ∷ 0 ∷ 0 ∷ [] in
     rw (size-is 0 0 0 4 body, packet-short body (kind-is body (omega arith) refl) (λ e. omega arith))

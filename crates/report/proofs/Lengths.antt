@@ -10,8 +10,8 @@ use lib.Seq.{length-take-le, drop-at}
 use Rattle.bits.specs.Pick.{pick}
 use Rattle.bits.proofs.Tests.{pick-cases}
 use Rattle.answer.specs.Answer.{Answer, Answer.accepted, Answer.refused}
-use Rattle.records.specs.Record.{Content, Content.aes3, Content.hd, Content.madi}
-use Rattle.report.specs.Text.{heading, aes3Ok, hdOk, madiOk, refusedWord, digits, decimal, pairText, answerText, lineOf, countLine}
+use Rattle.records.specs.Record.{Content, Content.aes3, Content.hd, Content.madi, Content.ctl}
+use Rattle.report.specs.Text.{heading, aes3Ok, hdOk, madiOk, ctlOk, refusedWord, recordsWord, digits, decimal, singleText, pairText, answerText, lineOf, countLine}
 use Rattle.report.specs.Placed.{startOf, withText}
 
 -- ---- lengths
@@ -27,6 +27,10 @@ decimal-most : (n : ℕ) → length (decimal n) ≤ 20
 unfolding decimal
 decimal-most n = digits-most 20 n
 
+single-most : (word : List ℕ) (a : ℕ) → length (singleText word a) ≤ length word + 21
+unfolding singleText
+single-most word a = simp length-append (omega (arith, decimal-most a))
+
 pair-most : (word : List ℕ) (a b : ℕ) → length (pairText word a b) ≤ length word + 42
 unfolding pairText
 pair-most word a b = simp length-append (omega (arith, decimal-most a, decimal-most b))
@@ -36,6 +40,7 @@ unfolding answerText
 answer-most (accepted (aes3 a b)) = omega (arith, pair-most aes3Ok a b)
 answer-most (accepted (hd group dbn)) = omega (arith, pair-most hdOk group dbn)
 answer-most (accepted (madi active commands)) = omega (arith, pair-most madiOk active commands)
+answer-most (accepted (ctl group)) = omega (arith, single-most ctlOk group)
 answer-most (refused number place) = omega (arith, pair-most refusedWord number place)
 
 pub line-most : (n : ℕ) (a : Answer Content) → length (lineOf n a) ≤ 71
@@ -44,7 +49,7 @@ line-most n a = omega (arith, length-append (decimal n) (answerText a), decimal-
 
 pub count-most : (n : ℕ) → length (countLine n) ≤ 29
 unfolding countLine
-count-most n = simp length-append (omega (arith, decimal-most n))
+count-most n = single-most recordsWord n
 
 -- ---- what is written, and the buffer then
 

@@ -4,7 +4,7 @@ use mathlib.Core.List.{List, [], _∷_, _++_}
 use lib.Dec.{eqb}
 use Rattle.bits.specs.Pick.{pick}
 use Rattle.answer.specs.Answer.{Answer, Answer.accepted, Answer.refused}
-use Rattle.records.specs.Record.{Content, Content.aes3, Content.hd, Content.madi}
+use Rattle.records.specs.Record.{Content, Content.aes3, Content.hd, Content.madi, Content.ctl}
 
 -- ---- words
 
@@ -23,6 +23,10 @@ hdOk = 32 ∷ 104 ∷ 100 ∷ 32 ∷ 111 ∷ 107 ∷ 32 ∷ []
 -- " madi ok "
 abbrev pub madiOk : List ℕ
 madiOk = 32 ∷ 109 ∷ 97 ∷ 100 ∷ 105 ∷ 32 ∷ 111 ∷ 107 ∷ 32 ∷ []
+
+-- " ctl ok "
+abbrev pub ctlOk : List ℕ
+ctlOk = 32 ∷ 99 ∷ 116 ∷ 108 ∷ 32 ∷ 111 ∷ 107 ∷ 32 ∷ []
 
 -- " refused "
 abbrev pub refusedWord : List ℕ
@@ -57,6 +61,10 @@ decimal n = digits 20 n
 
 -- ---- lines
 
+-- a word and one number
+unfoldable pub singleText : List ℕ → ℕ → List ℕ
+singleText word a = word ++ decimal a ++ lineEnd
+
 -- a word and two numbers
 unfoldable pub pairText : List ℕ → ℕ → ℕ → List ℕ
 pairText word a b = word ++ decimal a ++ blank ++ decimal b ++ lineEnd
@@ -66,6 +74,7 @@ unfoldable pub answerText : Answer Content → List ℕ
 answerText (accepted (aes3 a b)) = pairText aes3Ok a b
 answerText (accepted (hd group dbn)) = pairText hdOk group dbn
 answerText (accepted (madi active commands)) = pairText madiOk active commands
+answerText (accepted (ctl group)) = singleText ctlOk group
 answerText (refused number place) = pairText refusedWord number place
 
 -- the line of record n
@@ -74,4 +83,4 @@ lineOf n answer = decimal n ++ answerText answer
 
 -- the line that ends the report
 unfoldable pub countLine : ℕ → List ℕ
-countLine n = recordsWord ++ decimal n ++ lineEnd
+countLine n = singleText recordsWord n

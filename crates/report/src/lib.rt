@@ -6,7 +6,7 @@ ghost use Prim.Native.Nat.{_+_, _≤_};
 ghost use lib.ListN.{length};
 ghost use Rattle.answer.specs.Answer.{Answer.refused};
 ghost use Rattle.records.specs.Record.{outcomeSaid};
-ghost use Rattle.report.specs.Text.{heading, cutLine, decimal, pairText, answerText, lineOf, countLine};
+ghost use Rattle.report.specs.Text.{heading, cutLine, decimal, singleText, pairText, answerText, lineOf, countLine};
 ghost use Rattle.report.specs.Placed.{startOf, withText};
 ghost use Rattle.report.specs.Inner.{Put};
 ghost use Rattle.report.specs.Report.{printed, stepOf};
@@ -65,6 +65,17 @@ fn put_number(out: &mut [u8], end: usize, n: u64) -> usize
     base
 }
 
+// A word and a number, which end the line.
+fn put_single(out: &mut [u8], end: usize, word: &[u8], a: u64) -> usize
+    requires { ⌜ (length (now word) + 21 ≤ end) × (end ≤ length (now out)) ⌝ }
+    ensures { λ r. ⌜ Put (now (out .entry)) end (singleText (now (word .entry)) a) r (now (out .exit)) ⌝ }
+    ensures { λ r. ⌜ end ≤ r + length (now (word .entry)) + 21 ⌝ }
+{
+    let t = put_octet(out, end, b'\n');
+    let t = put_number(out, t, a);
+    put(out, t, word)
+}
+
 // A word and two numbers, which end the line.
 fn put_pair(out: &mut [u8], end: usize, word: &[u8], a: u32, b: u32) -> usize
     requires { ⌜ (length (now word) + 42 ≤ end) × (end ≤ length (now out)) ⌝ }
@@ -87,6 +98,7 @@ fn put_outcome(out: &mut [u8], end: usize, o: Outcome) -> usize
         Outcome::Aes3 { a, b } => put_pair(out, end, b" aes3 ok ", a, b),
         Outcome::Hd { group, dbn } => put_pair(out, end, b" hd ok ", group, dbn),
         Outcome::Madi { active, commands } => put_pair(out, end, b" madi ok ", active, commands),
+        Outcome::Ctl { group } => put_single(out, end, b" ctl ok ", group as u64),
         Outcome::Refused { number, place } => put_pair(out, end, b" refused ", number, place),
     }
 }
@@ -106,9 +118,7 @@ fn put_count(out: &mut [u8], n: u64) -> usize
     ensures { λ r. ⌜ Put (now (out .entry)) 128 (countLine n) r (now (out .exit)) ⌝ }
     ensures { λ r. ⌜ 99 ≤ r ⌝ }
 {
-    let t = put_octet(out, 128, b'\n');
-    let t = put_number(out, t, n);
-    put(out, t, b"records ")
+    put_single(out, 128, b"records ", n)
 }
 
 // ---- the report's texts, at the end of the lent buffer

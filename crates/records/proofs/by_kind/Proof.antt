@@ -15,6 +15,9 @@ packet-requires c κs = search needs
 frame-requires : tie.Need-frame-requires
 frame-requires c κs = search needs
 
+control-requires : tie.Need-control-requires
+control-requires c κs = search needs
+
 returns : tie.Need-returns
 unfolding byKind
 returns c = rw (c .before .match .keys1) (c .block .ensures)
@@ -29,10 +32,19 @@ returns-3 c = rw (c .before .match .keys3) (c .frame .ensures)
 
 returns-4 : tie.Need-returns-4
 unfolding byKind
-returns-4 c =
-    simp (ne-eqb _ _ (c .match .rest .0 .0 .1), ne-eqb _ _ (c .match .rest .0 .1), ne-eqb _ _ (c .match .rest .1))
+returns-4 c = rw (c .before .match .keys4) (c .control .ensures)
+
+returns-5 : tie.Need-returns-5
+unfolding byKind
+returns-5 c =
+    simp (
+      ne-eqb _ _ (c .match .rest .0 .0 .0 .1),
+      ne-eqb _ _ (c .match .rest .0 .0 .1),
+      ne-eqb _ _ (c .match .rest .0 .1),
+      ne-eqb _ _ (c .match .rest .1),
+    )
 
 pub by-kind-spec : {M : Type 1} → statement M
 by-kind-spec =
     tie.close
-    (tie.spec block-requires packet-requires frame-requires returns returns-2 returns-3 returns-4)
+    (tie.spec block-requires packet-requires frame-requires control-requires returns returns-2 returns-3 returns-4 returns-5)

@@ -12,18 +12,18 @@ use Rattle.records.proofs.fill_words.Statement.{statement}
 use Rattle.records.proofs.fill_words.Tie as tie
 
 abbrev Inv-loop : tie.InvT-loop
-Inv-loop octets words₀ i₀ words i = (i ≤ 31) × (length words ≡ 31) × (words ≡ over i (bigEndian octets) words₀)
+Inv-loop octets words₀ i₀ words i = (i ≤ length words₀) × (length words ≡ length words₀) × (words ≡ over i (bigEndian octets) words₀)
 
 abbrev μ-loop : tie.MeasureT-loop
-μ-loop octets words₀ i₀ words i = 31 - i
+μ-loop octets words₀ i₀ words i = length words₀ - i
 
 -- one word more
-word-more : (octets old : List ℕ) (i : ℕ) {words : List ℕ} {v : ℕ} → length octets ≡ 62 → length old ≡ 31 → i < 31
+word-more : (octets old : List ℕ) (i : ℕ) {words : List ℕ} {v : ℕ} → length octets ≡ length old * 2 → i < length old
     → words ≡ over i (bigEndian octets) old → v ≡ getD octets (i * 2) 0 * 256 + getD octets (i * 2 + 1) 0
     → set words i v ≡ over (i + 1) (bigEndian octets) old
-word-more octets old i h k l done e =
-    ap₂ (λ (ws : List ℕ) (x : ℕ). set ws i x) done (e ∙ word-at 31 octets i h l)
-    ∙ over-next i (bigEndian octets) old 0 (omega (arith, length-words 31 octets h)) (omega arith)
+word-more octets old i h l done e =
+    ap₂ (λ (ws : List ℕ) (x : ℕ). set ws i x) done (e ∙ word-at (length old) octets i h l)
+    ∙ over-next i (bigEndian octets) old 0 (omega (arith, length-words (length old) octets h)) (omega arith)
 
 loop-holds : tie.Need-loop-holds Inv-loop μ-loop
 loop-holds c = (search needs, search needs, refl)
@@ -64,7 +64,7 @@ loop-again c =
     let s = a .before .before .before in (
       search needs,
       search needs,
-      word-more (s .args .octets .now) (s .args .words .now) (a .loop .i) (s .pre .0) (s .pre .1) (omega arith) (a .loop .inv .2) (c .big-endian .ensures),
+      word-more (s .args .octets .now) (s .args .words .now) (a .loop .i) (s .pre) (omega (arith, a .loop .inv .1)) (a .loop .inv .2) (c .big-endian .ensures),
     )
 
 same-length : tie.Need-same-length Inv-loop μ-loop
@@ -75,7 +75,8 @@ returns c =
     let s = c .before .before .before .before in
     let octets = s .args .octets .now in
     c .before .loop .inv .2
-    ∙ over-all (c .before .loop .i) (bigEndian octets) (s .args .words .now) (omega (arith, length-words 31 octets (s .pre .0))) (omega arith)
+    ∙ over-all (c .before .loop .i) (bigEndian octets) (s .args .words .now) (omega (arith, length-words (length (s .args .words .now)) octets (s .pre), c .before .loop .inv .1))
+    (omega (arith, c .before .loop .inv .1))
 
 pub fill-words-spec : {M : Type 1} → statement M
 fill-words-spec =

@@ -38,6 +38,18 @@ put-pair-requires-3 c κs = search needs
 enum-known-o-4 : tie.Need-enum-known-o-4
 enum-known-o-4 c = search needs
 
+slice-aggregate-put-single : tie.Need-slice-aggregate-put-single
+slice-aggregate-put-single c = search needs
+
+cast-put-single : tie.Need-cast-put-single
+cast-put-single c = search needs
+
+put-single-requires : tie.Need-put-single-requires
+put-single-requires c κs = search needs
+
+enum-known-o-5 : tie.Need-enum-known-o-5
+enum-known-o-5 c = search needs
+
 slice-aggregate-put-pair-4 : tie.Need-slice-aggregate-put-pair-4
 slice-aggregate-put-pair-4 c = search needs
 
@@ -82,7 +94,17 @@ unfolding answerText
 returns-4 c =
     let p = c .before .before in
     let o = p .before .before .before .before in
-    (put-as (sym (ap (λ (x : Outcome). answerText (outcomeSaid x)) (o .o4 .given .1))) (p .put-pair4 .ensures .0), search needs)
+    (put-as (sym (ap (λ (x : Outcome). answerText (outcomeSaid x)) (o .o4 .given .1))) (p .put-single .ensures .0), search needs)
+
+same-length-5 : tie.Need-same-length-5
+same-length-5 c = search needs
+
+returns-5 : tie.Need-returns-5
+unfolding answerText
+returns-5 c =
+    let p = c .before .before in
+    let o = p .before .before .before .before in
+    (put-as (sym (ap (λ (x : Outcome). answerText (outcomeSaid x)) (o .o5 .given .1))) (p .put-pair4 .ensures .0), search needs)
 
 pub put-outcome-spec : {M : Type 1} → statement M
 put-outcome-spec =
@@ -98,6 +120,10 @@ put-outcome-spec =
     slice-aggregate-put-pair-3
     put-pair-requires-3
     enum-known-o-4
+    slice-aggregate-put-single
+    cast-put-single
+    put-single-requires
+    enum-known-o-5
     slice-aggregate-put-pair-4
     put-pair-requires-4
     same-length
@@ -107,4 +133,6 @@ put-outcome-spec =
     same-length-3
     returns-3
     same-length-4
-    returns-4)
+    returns-4
+    same-length-5
+    returns-5)

@@ -1,0 +1,4 @@
+pub mod Control
+pub mod Write
+pub mod Read
+pub mod Inner
