@@ -4,7 +4,7 @@ use mathlib.Core.Bool.{Bool, true, false, not, xor}
 use mathlib.Core.List.{[], _∷_, _++_, map}
 use Prim.Native.Nat.{ℕ, zero, suc, _+_, _-_, _^_, _<_}
 use native.Mathlib.Omega.{arith}
-use lib.ListN.{length, getD}
+use lib.ListN.{length, getD, drop}
 use Rattle.bits.specs.Pick.{pick}
 use Rattle.bits.specs.Row.{Row, odd, bigBits, big}
 use Rattle.bits.proofs.Rows.{bigBits-big}
@@ -78,38 +78,28 @@ pub record Opening (r : Row) : Type 0 where
   pub keeps : (l : Bool) → left l (afterLevel l r) ≡ l
   pub ends : odd (big r) ≡ false
 
-pub opening-X : Opening preambleX
-unfolding afterLevel left bigBits big
-opening-X = record { long = refl; begins = go; keeps = stay; ends = refl }
+-- so it is for eight that begin with a 1 and end with a 0, where the last after either level is that level
+opening : (t : Row) → length t ≡ 7 → left false (true ∷ t) ≡ false → left true (map not (true ∷ t)) ≡ true → odd (big (true ∷ t)) ≡ false
+    → Opening (true ∷ t)
+unfolding afterLevel
+opening t n low high e = record { long = ap suc n; begins = go; keeps = stay; ends = e }
   where
-    go : (l : Bool) (s : Row) → getD (afterLevel l preambleX ++ s) 0 true ≡ not l
+    go : (l : Bool) (s : Row) → getD (afterLevel l (true ∷ t) ++ s) 0 true ≡ not l
     go true s = refl
     go false s = refl
 
-    stay : (l : Bool) → left l (afterLevel l preambleX) ≡ l
-    stay true = refl
-    stay false = refl
+    stay : (l : Bool) → left l (afterLevel l (true ∷ t)) ≡ l
+    stay true = high
+    stay false = low
+
+pub opening-X : Opening preambleX
+unfolding left bigBits big
+opening-X = opening (drop 1 preambleX) refl refl refl refl
 
 pub opening-Y : Opening preambleY
-unfolding afterLevel left bigBits big
-opening-Y = record { long = refl; begins = go; keeps = stay; ends = refl }
-  where
-    go : (l : Bool) (s : Row) → getD (afterLevel l preambleY ++ s) 0 true ≡ not l
-    go true s = refl
-    go false s = refl
-
-    stay : (l : Bool) → left l (afterLevel l preambleY) ≡ l
-    stay true = refl
-    stay false = refl
+unfolding left bigBits big
+opening-Y = opening (drop 1 preambleY) refl refl refl refl
 
 pub opening-Z : Opening preambleZ
-unfolding afterLevel left bigBits big
-opening-Z = record { long = refl; begins = go; keeps = stay; ends = refl }
-  where
-    go : (l : Bool) (s : Row) → getD (afterLevel l preambleZ ++ s) 0 true ≡ not l
-    go true s = refl
-    go false s = refl
-
-    stay : (l : Bool) → left l (afterLevel l preambleZ) ≡ l
-    stay true = refl
-    stay false = refl
+unfolding left bigBits big
+opening-Z = opening (drop 1 preambleZ) refl refl refl refl
