@@ -56,17 +56,22 @@ size_t edge_length(edge e, size_t right);
 void edge_lent(const char *entry, const char *argument, edge e);
 int edge_touched(void);
 
+/* The groups of calls; each can be made by itself. `cases` is how many are drawn; what is tried at every place comes
+   whole in any case. */
 void compare_small(uint32_t cases);
-void compare_aes3(uint32_t cases);
-void compare_length(void);
-void compare_madi(uint32_t cases);
-void compare_commands(void);
-void compare_patch(uint32_t cases);
-void compare_leases(uint32_t cases);
 void compare_hd(uint32_t cases);
 void compare_control(uint32_t cases);
+void compare_madi(uint32_t cases);
+void compare_commands(uint32_t cases);
+void compare_aes3(uint32_t cases);
+void compare_length(uint32_t cases);
+void compare_biphase(uint32_t cases);
+void compare_hunt(uint32_t cases);
+void compare_align(uint32_t cases);
 void compare_talkback(uint32_t cases);
+void compare_patch(uint32_t cases);
 void compare_levels(uint32_t cases);
+void compare_leases(uint32_t cases);
 
 /* Things that are valid, for the cases to damage. */
 uint32_t even_body(void);                        /* a body with even parity, sometimes all zero */

@@ -265,18 +265,30 @@ static void aes3_find_in_some(void)
 
 void compare_aes3(uint32_t cases)
 {
-    static const int of_write[] = {0, 1, 2, 3, 4, 5, 6, 18, 20, -1}, of_read[] = {0, 1, 7, 8, -1}, of_find[] = {0, 1, 17, -1};
-    static const int of_align[] = {0, 1, 2, -1};
-    static const int of_table[] = {0, 1, -1};
+    static const int of_write[] = {0, 1, 2, 3, 4, 5, 6, 20, -1}, of_read[] = {0, 1, 7, 8, -1};
     for (uint32_t k = 0; k < cases; k += 16) {
         aes3_write();
         aes3_read();
     }
-    compare_length();
+    at_the_edges(aes3_write);
+    at_the_edges(aes3_read);
+    must_have_seen("aes3_write", of_write);
+    must_have_seen("aes3_read", of_read);
+}
+
+void compare_biphase(uint32_t cases)
+{
+    static const int of_table[] = {0, 1, -1};
+    (void)cases;                     /* nothing here is drawn as often as it is asked */
     for (size_t n = 0; n < 520; n++) /* every entry where there are 256 of them, and nothing at any other length */
         biphase_table_of(n);
     at_the_edges(biphase_table);
     must_have_seen("biphase_table", of_table);
+}
+
+void compare_hunt(uint32_t cases)
+{
+    static const int of_find[] = {0, 1, 17, -1};
     for (uint32_t k = 0; k < cases; k += 4)
         aes3_find(once_in(300) ? 8190 + below(6) : once_in(50) ? 3072 : once_in(4) ? 9 + below(4) : below(120));
     for (size_t n = 0; n < 12; n++)
@@ -288,15 +300,16 @@ void compare_aes3(uint32_t cases)
         false_z(n);
     for (size_t n = 8189; n < 8196; n++)
         aes3_find(n);
+    at_the_edges(aes3_find_in_some);
+    must_have_seen("aes3_find", of_find);
+}
+
+void compare_align(uint32_t cases)
+{
+    static const int of_align[] = {0, 1, 2, -1};
     every_position();
     for (uint32_t k = 0; k < cases; k += 32)
         aes3_align();
     at_the_edges(aes3_align);
     must_have_seen("aes3_align", of_align);
-    at_the_edges(aes3_write);
-    at_the_edges(aes3_read);
-    at_the_edges(aes3_find_in_some);
-    must_have_seen("aes3_write", of_write);
-    must_have_seen("aes3_read", of_read);
-    must_have_seen("aes3_find", of_find);
 }

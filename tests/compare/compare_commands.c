@@ -94,8 +94,9 @@ static void lists(void)
         }
 }
 
-void compare_commands(void)
+void compare_commands(uint32_t cases)
 {
+    (void)cases; /* nothing here is drawn as often as it is asked */
     pairs();
     boundaries();
     lists();

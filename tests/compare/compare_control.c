@@ -124,7 +124,7 @@ static void every_bit(void)
 void compare_control(uint32_t cases)
 {
     static const int of_write[] = {0, 1, 2, 12, -1}, of_read[] = {0, 1, 12, 13, 14, 16, -1};
-    for (uint32_t k = 0; k < cases; k++) {
+    for (uint32_t k = 0; k < cases / 4; k++) {
         control_write();
         control_read();
     }

@@ -146,7 +146,6 @@ void compare_madi(uint32_t cases)
         madi_read();
         madi_read();
     }
-    compare_commands();
     at_the_edges(madi_write);
     at_the_edges(madi_read);
     must_have_seen("madi_write", of_write);
