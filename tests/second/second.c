@@ -3,15 +3,12 @@
 
 uint32_t second_weight(int place)
 {
-    uint32_t w = 1;
-    for (int i = 0; i < place; i++)
-        w = w * 2;
-    return w;
+    return (uint32_t)1 << place;
 }
 
 int second_bit(uint32_t number, int place)
 {
-    return (int)(number / second_weight(place) % 2);
+    return (int)(number >> place & 1);
 }
 
 /* The earliest symbol of an octet is its highest bit. */
