@@ -126,6 +126,15 @@ build/stand_in.o: $(SECOND) tests/second/second.h
 	for f in $(SECOND); do $(CC) -std=c11 -O2 -c -o build/stand_in/$${f##*/}.o build/stand_in/$${f##*/} || exit 1; done
 	ld -r -o $@ build/stand_in/*.o
 
+# The same, watched by the sanitisers where the compiler has them. No memory is taken, so that no leak is looked for,
+# which takes seconds at the end of every program.
+WATCHED = ASAN_OPTIONS=detect_leaks=0
+build/watched.o: build/stand_in.o
+	@mkdir -p build/watched
+	CC="$(CC)" tests/sanitise >build/sanitise
+	for f in build/stand_in/*.c; do $(CC) -std=c11 -O2 $$(cat build/sanitise) -c -o build/watched/$${f##*/}.o $$f || exit 1; done
+	ld -r -o $@ build/watched/*.o
+
 # The header beside the Rattle source; its texts beside the papers; and as C and, where there is a compiler for it, as
 # C++.
 header:
@@ -135,12 +144,12 @@ header:
 	if command -v c++ >/dev/null; then \
 	    echo '#include "lampcoil.h"' | c++ -std=c++11 -Wall -Wextra -Werror -pedantic -Iinclude -x c++ -fsyntax-only -; fi
 
-# The second program on what is written down with its answer, watched by the sanitisers where the compiler has them;
-# on every constant of the header; and on every change of status bits that a right CRCC excludes.
-second: build/stand_in.o
+# The second program, watched, on what is written down with its answer; on every constant of the header; and on every
+# change of status bits that a right CRCC excludes.
+second: build/watched.o
 	for t in listed constants caught; do \
-	    $(CC) $(CFLAGS) $$(CC="$(CC)" tests/sanitise) -Iinclude -o build/$${t}_second tests/$$t.c build/stand_in/*.c || exit 1; \
-	    build/$${t}_second || exit 1; done
+	    $(CC) $(CFLAGS) $$(cat build/sanitise) -Iinclude -o build/$${t}_second tests/$$t.c build/watched.o || exit 1; \
+	    $(WATCHED) build/$${t}_second || exit 1; done
 
 # The library on the same.
 listed: $(ARCHIVE)
@@ -155,15 +164,19 @@ held:
 	for f in $$(cd build/expected && find . -type f); do cmp build/expected/$$f $$f || exit 1; done
 
 # The C by hand that the library is measured against, held to the second program: each function that bench.c calls
-# takes the library's place in the comparing program, once for either search; the entries that are not written by hand
-# are the second program's own.
+# takes the library's place in the comparing program, in a whole run; then the other search, in the group that calls it;
+# the entries that are not written by hand are the second program's own.
 hand: build/stand_in.o
 	for f in $$(grep -o 'hand_[a-z0-9_]*(' bench/hand.h | grep -v '^hand_init_' | sort -u); do \
 	    grep -q " $${f%(}$$" bench/in_place.h || { echo "hand: $${f%(} is not held to the second program"; exit 1; }; done
-	for search in AT_ONCE BY_CANDIDATE; do \
-	    $(CC) $(CFLAGS) -O3 $(INCLUDES) -Ibench -D$$search '-DIN_PLACE="in_place.h"' -o build/compare_hand $(COMPARE) bench/hand_start.c \
-	        $(HAND) $(SPOIL) $(SECOND) build/stand_in.o || exit 1; \
-	    build/compare_hand >build/compare_hand.txt || { cat build/compare_hand.txt; exit 1; }; done
+	rm -rf build/hand
+	mkdir -p build/hand
+	for f in bench/hand_start.c $(HAND) $(SPOIL) $(SECOND); do \
+	    $(CC) $(CFLAGS) -O3 $(INCLUDES) -c -o build/hand/$${f##*/}.o $$f || exit 1; done
+	$(CC) $(CFLAGS) $(INCLUDES) -Ibench '-DIN_PLACE="in_place.h"' -o build/compare_hand $(COMPARE) build/hand/*.o build/stand_in.o
+	build/compare_hand >build/compare_hand.txt || { cat build/compare_hand.txt; exit 1; }
+	$(CC) $(CFLAGS) $(INCLUDES) -Ibench '-DIN_PLACE="in_place.h"' -DBY_CANDIDATE -o build/compare_hunt $(COMPARE) build/hand/*.o build/stand_in.o
+	build/compare_hunt 20000 0 hunt >build/compare_hunt.txt || { cat build/compare_hunt.txt; exit 1; }
 	tests/compared build/compare_hand.txt
 	$(CC) $(CFLAGS) -O3 $(INCLUDES) -o build/report_native bench/report_hand.c $(HAND)
 	build/report_native <examples/desk.rec | cmp - examples/desk.expected
@@ -190,15 +203,14 @@ card: $(ARCHIVE)
 	$(X86) run build/card >build/card.txt
 	cmp build/card.txt examples/card.expected
 
-# The longer example: at its edges, over the second program, watched like it (no memory is taken, so that no leak is
-# looked for, which is slow where many short programs run); and over the library.
+# The longer example: at its edges, over the second program, watched like it; and over the library.
 build/sound_tool: tests/sound_tool.c
 	@mkdir -p build
 	$(CC) $(CFLAGS) -o $@ tests/sound_tool.c
 
-carry_alone: build/stand_in.o build/sound_tool
-	$(CC) $(CFLAGS) $$(CC="$(CC)" tests/sanitise) -Iinclude -o build/carry_second $(CARRY) build/stand_in/*.c
-	ASAN_OPTIONS=detect_leaks=0 tests/carry build/sound_tool build/carry_second
+carry_alone: build/watched.o build/sound_tool
+	$(CC) $(CFLAGS) $$(cat build/sanitise) -Iinclude -o build/carry_second $(CARRY) build/watched.o
+	$(WATCHED) tests/carry build/sound_tool build/carry_second
 
 carry: $(ARCHIVE) build/sound_tool
 	$(X86) cc $(CFLAGS) -Iinclude -o build/carry $(CARRY) $(ARCHIVE)
