@@ -87,10 +87,12 @@ report: program
 
 # ---- tests
 
-# In this order, one after the other. rt ci removes target/, so what needs the archive comes after it, when the
-# library is proved; its verdict is held back till everything else has passed, and a failure anywhere ends this
-# without it.
-test: read alone proofs edits tried boundary
+# In this order; parts that take one processor and need nothing of each other run two at a time (tests/at-once). rt ci
+# removes target/, so what needs the archive comes after it, when the library is proved; its verdict is held back till
+# everything else has passed, and a failure anywhere ends this without it.
+test: read alone proofs edits
+	tests/at-once '$(MAKE) -s tried' '$(MAKE) -s lib'
+	$(MAKE) -s boundary
 	@echo "logs: build/ci.log (rt ci, whole), target/log (each crate), target/must-fail (each sheet), build (the C programs; build/tried, each program)"
 	@cat build/verdict
 
@@ -103,7 +105,9 @@ read:
 	tests/papers
 
 # The C programs by themselves.
-alone: header second held hand carry_alone mutants
+alone: header build/watched.o build/sound_tool
+	tests/at-once '$(MAKE) -s second held' '$(MAKE) -s hand carry_alone'
+	$(MAKE) -s mutants
 
 # All proofs, wrong answers and programs; and then why each wrong answer was refused.
 proofs:
@@ -112,7 +116,8 @@ proofs:
 edits:
 	tests/edits
 
-boundary: lib listed compare flips card carry failing installed
+boundary: lib build/sound_tool
+	tests/at-once '$(MAKE) -s compare' '$(MAKE) -s listed flips card carry failing installed'
 
 promises:
 	@mkdir -p build
