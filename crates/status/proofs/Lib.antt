@@ -1,3 +1,4 @@
 pub mod Back
 pub mod Lossless
 pub mod Coordination
+pub mod Fields
