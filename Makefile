@@ -100,6 +100,7 @@ test: read alone proofs edits
 read:
 	rt fmt --check
 	tests/contracts
+	tests/lent
 	tests/spoilt/try
 	tests/unfoldings
 	tests/promises

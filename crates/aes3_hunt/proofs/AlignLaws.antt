@@ -16,7 +16,7 @@ use Rattle.bits.proofs.Filling.{over, over-next}
 use Rattle.answer.specs.Answer.{Answer, Answer.accepted, rewritten}
 use Rattle.answer.proofs.Chains.{met}
 use Rattle.answer.specs.Residue.{NoResidue}
-use Rattle.answer.proofs.Residues.{whole, no-residue}
+use Rattle.answer.proofs.Residues.{whole, no-residue-in}
 use Rattle.line.specs.Load.{loaded}
 use Rattle.line.proofs.LoadLaws.{load-window}
 use Rattle.aes3_hunt.specs.Align.{alignDemands, blockFrom, aligned}
@@ -64,7 +64,9 @@ module _ (line : List ℕ) (position : ℕ) where
       let room : length old ≡ 3072 = eqb-true _ 3072 (m .0 .0) in
       rw (e, ← m .1) (whole (λ new. new) (blockFrom line position) old (length-from ∙ sym room))
 
--- whatever stood in the block leaves no trace, and nothing outside it changes
+-- whatever stood in the 3,072 octets of the block leaves no trace, and nothing outside it changes
 pub align-leaves-none : (line : List ℕ) (position : ℕ)
-    → NoResidue (λ new. new) (λ old. aligned line position (length old)) (λ old. rewritten (aligned line position (length old)) old)
-align-leaves-none line position = no-residue (λ new. new) (aligned line position)
+    → NoResidue 3072 (λ old. aligned line position (length old)) (λ old. rewritten (aligned line position (length old)) old)
+unfolding aligned
+align-leaves-none line position =
+    no-residue-in (λ new. new) 3072 (alignDemands line position) (blockFrom line position) (λ room m. length-from line position)

@@ -2,15 +2,16 @@
 -- afresh. Assumes nothing.
 use mathlib.Core.Path.{_≡_, refl, sym, ap, ap₂, _∙_}
 use mathlib.Core.Logic.{⊎-elim}
-use mathlib.Core.Bool.{true}
+use mathlib.Core.Bool.{Bool, true, false, _||_}
 use mathlib.Core.List.{List, [], _∷_, _++_}
 use Prim.Native.Nat.{ℕ, suc, _+_, _-_, _*_, _≤_, _<_}
 use native.Mathlib.Omega.{arith}
 use borrow.Author.Tests.{eqb-true}
-use lib.Dec.{lit<}
+use lib.Dec.{lit<, eqb}
 use lib.ListN.{length, getD, take, set, replicate, replicate-append-replicate, length-set}
 use lib.Seq.{take-set-lt, getD-take, getD-set-same, getD-set-other, length-take-le, ext-getD}
 use lib.Bits.{bitXor, xor-zero-r}
+use Rattle.bits.specs.Pick.{pick}
 use Rattle.bits.specs.Row.{bits, bigBits, little}
 use Rattle.bits.proofs.Rows.{length-bigBits}
 use Rattle.bits.proofs.Counts.{count-zeros}
@@ -19,8 +20,9 @@ use Rattle.bits.proofs.XorRows.{bigBits-xor}
 use Rattle.bits.proofs.Beside.{little-xor, same-or-not}
 use Rattle.bits.proofs.Packing.{chain-append, chain-one}
 use Rattle.answer.specs.Answer.{Answer.accepted, Answer.refused, rewritten}
+use Rattle.answer.specs.Residue.{InPlace}
 use Rattle.answer.proofs.Chains.{met}
-use Rattle.answer.proofs.Residues.{whole}
+use Rattle.answer.proofs.Residues.{whole, in-place}
 use Rattle.codes.specs.Divide.{through}
 use Rattle.codes.specs.Crcc.{crccGenerator, sent, stagesAfter, octetOf, crccOf, crccRight, sealed}
 use Rattle.codes.specs.Edit.{editDemands, withByte, editAnswer, edited}
@@ -30,7 +32,7 @@ use Rattle.codes.proofs.Emptied.{silent}
 use Rattle.codes.proofs.Xored.{zeros, none-there, sent-zeros, xored-set}
 use Rattle.codes.proofs.CrccTable.{sent-next}
 use Rattle.codes.proofs.CrccBlocks.{stagesFrom, right-is-whole, right-is-crcc, stages-xored}
-use Rattle.codes.proofs.SealLaws.{sealed-24, seal-makes-right, seal-leaves-none}
+use Rattle.codes.proofs.SealLaws.{set-at, sealed-24, seal-makes-right, seal-leaves-none}
 
 -- ---- octet by octet, from any stages
 
@@ -131,17 +133,24 @@ module _ (status : List ℕ) (byte value : ℕ) where
   edit-makes-right w e =
       rw (edit-is-sealing-afresh w e) (seal-makes-right new (length-set status byte value ∙ edit-accepted w e .0))
 
-  -- no octet but that byte and byte 23 is touched
-  pub edit-leaves-the-rest : (w : List ℕ) → editAnswer status byte value ≡ accepted w → (i : ℕ) → (i ≡ byte → ⊥) → (i ≡ 23 → ⊥)
-      → getD (edited status byte value) i 0 ≡ getD status i 0
-  unfolding withByte
-  edit-leaves-the-rest w e i nb nl =
-      ap (λ os. getD os i 0) (edited-is w e ∙ sym (edit-accepted w e .1)) ∙ getD-set-other new 23 i (crccOf new) 0 nl
-      ∙ getD-set-other status byte i value 0 nb
+-- ---- in place: it writes that byte and byte 23 and no other, and on a refusal none
 
-  -- a refused edit leaves the block
-  pub refused-edit-leaves-all : (number place : ℕ) → editAnswer status byte value ≡ refused number place → edited status byte value ≡ status
-  refused-edit-leaves-all number place e = ap (λ x. rewritten x status) e
+pub edit-in-place : (byte value : ℕ)
+    → InPlace 0 (λ status k. eqb k 23 || eqb k byte) (λ status k. pick (eqb k 23) (crccOf (set status byte value)) value)
+    (λ status. editAnswer status byte value) (λ status. edited status byte value)
+unfolding withByte
+edit-in-place byte value =
+    in-place (λ v. v) 0 (λ status k. eqb k 23 || eqb k byte) (λ status k. pick (eqb k 23) (crccOf (set status byte value)) value)
+    (λ status. editAnswer status byte value)
+    (λ a v e. let m = edit-accepted a byte value v e in ap length (sym (m .1)) ∙ length-new a byte value (m .0))
+    (λ a v e k h. ap (λ (l : List ℕ). getD l k 0) (sym (edit-accepted a byte value v e .1))
+    ∙ set-at (set a byte value) 23 (crccOf (set a byte value)) k (rw (length-set a byte value) h)
+    ∙ ap (λ (x : ℕ). pick (eqb k 23) (crccOf (set a byte value)) x) (set-at a byte value k h)
+    ∙ either (eqb k 23) (eqb k byte) (crccOf (set a byte value)) value (getD a k 0))
+  where
+    either : (p q : Bool) (x y z : ℕ) → pick p x (pick q y z) ≡ pick (p || q) (pick p x y) z
+    either true q x y z = refl
+    either false q x y z = refl
 
 -- ---- no residue: of bytes 0 to 22 all but the edited one are its input, and what stood in that byte and in byte 23
 -- shows nowhere

@@ -15,6 +15,7 @@ use Rattle.anc.specs.Word.{opposed, wordOf, widthBy}
 use Rattle.anc.specs.Head.{didIn, groupIn}
 use Rattle.anc.specs.Enclosed.{wordsBy, enclosed}
 use Rattle.anc.proofs.SumLaws.{opposed-none}
+use Rattle.anc.proofs.Enclosing.{length-words, length-enclosed}
 use Rattle.anc.proofs.Heads.{each-group, inFull, full-word}
 use Rattle.subframe.specs.Signed.{inRange, codeOf, signedOf}
 use Rattle.subframe.proofs.SignedLaws.{code-lt}
@@ -139,6 +140,11 @@ packet-of c = refl
 pub fourteen : (c : Control) → length (controlValues c) ≡ 14
 unfolding controlValues
 fourteen c = refl
+
+pub packet-size : (c : Control) → length (controlPacket c) ≡ 18
+packet-size c =
+    ap length (sym (packet-of c))
+    ∙ length-enclosed (wordsBy ruleOf 3 (controlValues c)) 14 (length-words ruleOf 3 (controlValues c) ∙ fourteen c)
 
 pub delay-number-lt : (valid : ℕ) (delay : ℤ) → valid ≤ 1 → inRange 26 delay ≡ true → delayNumber valid delay < 2 ^ 27
 delay-number-lt valid delay h l = omega (arith, code-lt 26 (omega arith) delay l)

@@ -2,3 +2,4 @@ pub mod Status
 pub mod Told
 pub mod Control
 pub mod Slots
+pub mod Lent

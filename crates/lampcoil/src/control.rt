@@ -2,7 +2,8 @@
 ghost use mathlib.Core.Path.{_≡_};
 ghost use lib.ListN.{length};
 ghost use Rattle.answer.specs.Answer.{verdict};
-ghost use Rattle.hd_control.specs.Write.{writeAnswer, wordsWritten};
+ghost use Rattle.hd_control.specs.Write.{writeAnswer};
+ghost use Rattle.hd_control.specs.Write.{wordsWritten as controlWritten};
 ghost use Rattle.hd_control.specs.Read.{readAnswer, controlSaid};
 ghost use Rattle.lampcoil.specs.Told.{toldVerdict};
 ghost use Rattle.lampcoil.specs.Control.{toldControl, controlLent};
@@ -75,7 +76,7 @@ pub extern "C" fn lampcoil_hd_control_write(
     words: &mut [u16],
 ) -> Told
     ensures { λ r. ⌜ r ≡ toldVerdict (verdict (writeAnswer (controlLent group frame rate asynchronous active valid12 delay12 valid34 delay34) (length (now (words .entry))))) ⌝ }
-    ensures { λ _. ⌜ now (words .exit) ≡ wordsWritten (controlLent group frame rate asynchronous active valid12 delay12 valid34 delay34) (now (words .entry)) ⌝ }
+    ensures { λ _. ⌜ now (words .exit) ≡ controlWritten (controlLent group frame rate asynchronous active valid12 delay12 valid34 delay34) (now (words .entry)) ⌝ }
 {
     let fields = Control {
         group,

@@ -7,15 +7,15 @@ use Prim.Native.Nat.{ℕ, _<_}
 use native.Mathlib.Omega.{arith}
 use borrow.Author.Tests.{eq-eqb}
 use lib.Dec.{eqb}
-use lib.IntN.{ℤ, natAbs}
+use lib.IntN.{ℤ, pos, natAbs}
 use lib.ListN.{length}
 use Rattle.bits.specs.Pick.{pick}
 use Rattle.answer.specs.Answer.{Answer, Answer.accepted, Answer.refused, rewritten}
 use Rattle.answer.specs.Demand.{Demand, Demand.asks, Demand.findsNone, provided, _&_}
 use Rattle.answer.specs.Demand.Stops.{fails, later}
-use Rattle.answer.specs.Residue.{NoResidue}
+use Rattle.answer.specs.Residue.{NoResidue, InPlace}
 use Rattle.answer.proofs.Chains.{passing, stopped, passes-on}
-use Rattle.answer.proofs.Residues.{whole, no-residue}
+use Rattle.answer.proofs.Residues.{whole, no-residue-in, in-place}
 use Rattle.block.specs.Side.{sideLength}
 use Rattle.block.specs.Check.{outside}
 use Rattle.levels.specs.Lines.{lineAt, sheetSound, sheetJoined, emptySheet}
@@ -24,7 +24,7 @@ use Rattle.levels.specs.Calls.{hasRoom, Fit, startAnswer, startLeft, joi
 use Rattle.levels.proofs.Accepting.{FitBlock}
 use Rattle.levels.proofs.Joining.{joining}
 use Rattle.levels.proofs.Adding.{adding, adding-to}
-use Rattle.levels.proofs.Places.{length-joined}
+use Rattle.levels.proofs.Places.{length-joined, length-empty}
 
 rooms : (v : List ℤ) (r t : Bool) → provided (asks 22 0 r ∷ asks 22 0 t ∷ []) (accepted v) ≡ pick (r && t) (accepted v) (refused 22 0)
 rooms v true true = passing (accepted v) (asks 22 0 true ∷ asks 22 0 true ∷ []) (refl & refl & tt)
@@ -58,26 +58,23 @@ module _ (a : List ℤ) (b : Block) (la : length a ≡ 20) (sa : sheetSound a �
 
 -- ---- no residue
 
--- starting: any two prior contents give the same sheet, and a refusal leaves all
-pub start-leaves-none : NoResidue (λ (v : List ℤ). v) startAnswer startLeft
+-- starting: any two prior contents give the same sheet of 20 numbers, and a refusal leaves all
+pub start-leaves-none : NoResidue 20 startAnswer startLeft
 unfolding startAnswer
-start-leaves-none = no-residue (λ v. v) (λ n. provided (asks 1 0 (eqb n 20) ∷ []) (accepted emptySheet))
+start-leaves-none = no-residue-in (λ v. v) 20 (λ n. asks 1 0 (eqb n 20) ∷ []) emptySheet (λ room m. length-empty)
 
--- adding and joining: the sheet is input and output; on acceptance all of its 20 lines are what was answered, a
--- definition of the inputs, and on a refusal all stay
-pub join-leaves : (a b v : List ℤ) → joinAnswer a b ≡ accepted v → joinLeft a b ≡ sheetJoined a b
-join-leaves a b v e =
-    let p = joining a b v e in
-    ap (λ (x : Answer (List ℤ)). rewritten x a) (e ∙ ap accepted (p .4))
-    ∙ whole (λ v. v) (sheetJoined a b) a (length-joined a b ∙ sym (p .0))
+-- adding and joining: the sheet is input and output; on acceptance all of its 20 numbers are those of the two sheets
+-- joined, and on a refusal all stay
+pub join-leaves : (second : List ℤ)
+    → InPlace (pos 0) (λ sheet k. true) (λ sheet k. lineAt (sheetJoined sheet second) k) (λ sheet. joinAnswer sheet second) (λ sheet. joinLeft sheet second)
+join-leaves second =
+    in-place (λ v. v) (pos 0) (λ sheet k. true) (λ sheet k. lineAt (sheetJoined sheet second) k) (λ sheet. joinAnswer sheet second)
+    (λ a v e. let p = joining a second v e in ap length (p .4) ∙ length-joined a second ∙ sym (p .0))
+    (λ a v e k h. ap (λ l. lineAt l k) (joining a second v e .4))
 
-pub refused-join-leaves-all : (a b : List ℤ) (number place : ℕ) → joinAnswer a b ≡ refused number place → joinLeft a b ≡ a
-refused-join-leaves-all a b number place e = rw e
-
-pub add-leaves : (a : List ℤ) (b : Block) (v : List ℤ) → addAnswer a b ≡ accepted v → addLeft a b ≡ sheetJoined a (sheetOf (b ∷ []))
-add-leaves a b v e =
-    ap (λ (x : Answer (List ℤ)). rewritten x a) (e ∙ ap accepted (adding a b v e))
-    ∙ whole (λ v. v) (sheetJoined a (sheetOf (b ∷ []))) a (length-joined a (sheetOf (b ∷ [])) ∙ sym (adding-to a b v e))
-
-pub refused-add-leaves-all : (a : List ℤ) (b : Block) (number place : ℕ) → addAnswer a b ≡ refused number place → addLeft a b ≡ a
-refused-add-leaves-all a b number place e = rw e
+pub add-leaves : (b : Block)
+    → InPlace (pos 0) (λ sheet k. true) (λ sheet k. lineAt (sheetJoined sheet (sheetOf (b ∷ []))) k) (λ sheet. addAnswer sheet b) (λ sheet. addLeft sheet b)
+add-leaves b =
+    in-place (λ v. v) (pos 0) (λ sheet k. true) (λ sheet k. lineAt (sheetJoined sheet (sheetOf (b ∷ []))) k) (λ sheet. addAnswer sheet b)
+    (λ a v e. ap length (adding a b v e) ∙ length-joined a (sheetOf (b ∷ [])) ∙ sym (adding-to a b v e))
+    (λ a v e k h. ap (λ l. lineAt l k) (adding a b v e))

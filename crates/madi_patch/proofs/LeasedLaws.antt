@@ -7,12 +7,12 @@ use lib.ListN.{length, getD, take}
 use lib.Seq.{getD-take}
 use Rattle.answer.specs.Answer.{Answer.accepted, Answer.refused, after}
 use Rattle.answer.specs.Residue.{NoResidue}
-use Rattle.answer.proofs.Chains.{passed}
+use Rattle.answer.proofs.Chains.{passed, met}
 use Rattle.answer.proofs.Residues.{no-residue}
 use Rattle.madi_patch.specs.Slot.{Panel, Own, Agree}
-use Rattle.madi_patch.specs.Patch.{Patched, frameOf, verdictsOf, patchAnswer, frameAfter, verdictsAfter}
+use Rattle.madi_patch.specs.Patch.{Patched, patched, patchDemands, frameOf, verdictsOf, patchAnswer, frameAfter, verdictsAfter}
 use Rattle.madi_patch.specs.Leased.{leasedPanel, leasedDemands, leasedAnswer, leasedFrame, leasedVerdicts}
-use Rattle.madi_patch.proofs.PatchLaws.{out-nothing-foreign}
+use Rattle.madi_patch.proofs.PatchLaws.{length-made-frame, length-verdicts, out-nothing-foreign}
 use Rattle.madi_patch.proofs.Separation.{separate-words, separate-verdicts}
 
 module _ (channels active : ℕ) (leases rows frame old-frame old-verdicts : List ℕ) where
@@ -85,13 +85,27 @@ module _ (channels active : ℕ) (leases rows rows′ frame frame′ old-frame o
         (by-two channels active leases rows′ frame′ old-frame′ old-verdicts′ made′ accepts′) o h owned
         ∙ sym (ap (λ (l : List ℕ). getD l o 0) (verdicts-by-two channels active leases rows′ frame′ old-frame′ old-verdicts′ made′ accepts′))
 
--- ---- no residue, of each list, whatever the length of the other
+-- ---- no residue, of each list, as long as the channel count, whatever the length of the other
 
 module _ (channels active : ℕ) (leases rows frame : List ℕ) (other : ℕ) where
-  pub leased-patch-leaves-none-in-frame : NoResidue frameOf (λ out. leasedAnswer channels active leases rows frame (length out) other)
-      (λ out. after frameOf (leasedAnswer channels active leases rows frame (length out) other) out)
-  leased-patch-leaves-none-in-frame = no-residue frameOf (λ n. leasedAnswer channels active leases rows frame n other)
+  made-is : (out verdicts : ℕ) (v : Patched) → leasedAnswer channels active leases rows frame out verdicts ≡ accepted v
+      → patched channels (leasedPanel channels active leases rows frame) ≡ v
+  unfolding leasedAnswer patchAnswer
+  made-is out verdicts v e =
+      let p = leasedPanel channels active leases rows frame in
+      met (patched channels p) (patchDemands channels p out verdicts)
+      (passed (patchAnswer channels p out verdicts) (leasedDemands channels active leases) v e .1) .1
 
-  pub leased-patch-leaves-none-in-verdicts : NoResidue verdictsOf (λ verdicts. leasedAnswer channels active leases rows frame other (length verdicts))
+  pub leased-patch-leaves-none-in-frame : NoResidue channels (λ out. leasedAnswer channels active leases rows frame (length out) other)
+      (λ out. after frameOf (leasedAnswer channels active leases rows frame (length out) other) out)
+  leased-patch-leaves-none-in-frame =
+      no-residue frameOf channels (λ n. leasedAnswer channels active leases rows frame n other)
+      (λ room v e. ap (λ x. length (frameOf x)) (sym (made-is room other v e))
+      ∙ length-made-frame channels (leasedPanel channels active leases rows frame))
+
+  pub leased-patch-leaves-none-in-verdicts : NoResidue channels (λ verdicts. leasedAnswer channels active leases rows frame other (length verdicts))
       (λ verdicts. after verdictsOf (leasedAnswer channels active leases rows frame other (length verdicts)) verdicts)
-  leased-patch-leaves-none-in-verdicts = no-residue verdictsOf (λ n. leasedAnswer channels active leases rows frame other n)
+  leased-patch-leaves-none-in-verdicts =
+      no-residue verdictsOf channels (λ n. leasedAnswer channels active leases rows frame other n)
+      (λ room v e. ap (λ x. length (verdictsOf x)) (sym (made-is other room v e))
+      ∙ length-verdicts channels (leasedPanel channels active leases rows frame))

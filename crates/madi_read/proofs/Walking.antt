@@ -1,14 +1,14 @@
 -- Laws of reading boundary by boundary: what a piece says of the room that it was found in, and one step of reading.
 -- Assumes nothing.
-use mathlib.Core.Path.{_≡_, refl, sym, subst}
+use mathlib.Core.Path.{_≡_, refl, sym, subst, _∙_}
 use mathlib.Core.Bool.{true, _&&_}
-use mathlib.Core.List.{List, []}
+use mathlib.Core.List.{List, [], _∷_}
 use Prim.Native.Nat.{ℕ, zero, suc, _+_, _-_, _≤_, _<_}
 use native.Mathlib.Nat.{sub-zero}
 use native.Mathlib.Omega.{arith}
 use borrow.Author.Tests.{ltb-true, ltb-false, leb-true, eqb-true, eqb-false}
 use lib.Dec.{eqb, ltb, leb}
-use lib.ListN.{length}
+use lib.ListN.{length, length-append}
 use Rattle.bits.specs.Pick.{pick}
 use Rattle.bits.specs.Row.{Row}
 use Rattle.bits.specs.Window.{part, window}
@@ -22,7 +22,7 @@ use Rattle.madi_code.specs.Channels.{channelOf}
 use Rattle.madi_code.specs.declared.ChannelBits.{ChannelBits}
 use Rattle.madi_code.specs.declared.ChannelBits.the-variants.{Word, Broken}
 use Rattle.madi_code.proofs.GroupLaws.{command-only}
-use Rattle.madi_read.specs.Reader.{Frame, atStart, placeOf, withCommand, withChannel, firstRight, activeRight, channelAt, isCommand}
+use Rattle.madi_read.specs.Reader.{Frame, atStart, cleared, placeOf, withCommand, withChannel, firstRight, activeRight, channelAt, isCommand}
 use Rattle.madi_read.specs.Reader.{pieceAt, onward, readOn, rowRead}
 use Rattle.madi_read.specs.Inner.{sofar}
 use Rattle.madi_read.specs.declared.Piece.{Piece}
@@ -107,6 +107,15 @@ module _ {ℓ} (r : Row) (channels : ℕ) (g : Frame) (P : Frame → Type ℓ)
   pub read-back : rowRead r channels ≡ accepted g → P atStart
   unfolding rowRead
   read-back e = backward (channels + 256) atStart e
+
+-- a frame that is read has a word for each channel, and at most 255 commands
+pub frame-sizes : (r : Row) (channels : ℕ) (g : Frame) → rowRead r channels ≡ accepted g
+    → (length (g .words) ≡ channels) × (length (g .commands) ≤ 255)
+frame-sizes r channels g e =
+    read-back r channels g
+    (λ f. length (f .words) ≡ f .channels → length (f .commands) ≤ 255 → (length (g .words) ≡ channels) × (length (g .commands) ≤ 255))
+    (λ q w s. (w ∙ q .0, s)) (λ f c q on w s. on w (omega (arith, length-append (f .commands) (c ∷ []), q .0)))
+    (λ f v q on w s. on (omega (arith, length-append (f .words) (cleared v ∷ []), w)) s) e refl (omega arith)
 
 -- reading begins before the first unit
 pub from-start : (r : Row) (channels : ℕ) → rowRead r channels ≡ readOn r channels (channels + 256 - (0 + 0)) atStart

@@ -16,14 +16,9 @@ use Rattle.anc.proofs.Enclosing.{length-words, length-enclosed, laid-out}
 use Rattle.hd_control.specs.Control.{ruleOf, misused, reserved, controlValues, controlPacket}
 use Rattle.hd_control.specs.Write.{inRanges, writeAnswer}
 use Rattle.hd_control.specs.declared.Control.{Control}
-use Rattle.hd_control.proofs.ControlLaws.{ranges, fourteen, packet-of}
+use Rattle.hd_control.proofs.ControlLaws.{ranges, fourteen, packet-size, packet-of}
 use Rattle.hd_control.proofs.write_control.Statement.{statement}
 use Rattle.hd_control.proofs.write_control.Tie as tie
-
-packet-size : (c : Control) → length (controlPacket c) ≡ 18
-packet-size c =
-    ap length (sym (packet-of c))
-    ∙ length-enclosed (wordsBy ruleOf 3 (controlValues c)) 14 (length-words ruleOf 3 (controlValues c) ∙ fourteen c)
 
 -- after the length and the ranges
 module _ (t : tie.Then2) where
