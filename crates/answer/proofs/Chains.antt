@@ -9,7 +9,7 @@ use native.Mathlib.Omega.{arith}
 use Rattle.bits.specs.Pick.{pick, first}
 use Rattle.bits.proofs.Tests.{pick-cases, no-yes, order}
 use Rattle.bits.proofs.Firsts.{first-cases}
-use Rattle.answer.specs.Answer.{Answer, Answer.accepted, Answer.refused}
+use Rattle.answer.specs.Answer.{Answer, Answer.accepted, Answer.refused, mapped}
 use Rattle.answer.specs.Demand.{Demand, Demand.asks, Demand.findsNone, provided, Met, AllMet, Stops}
 use Rattle.answer.specs.Demand.Stops.{fails, found, later}
 
@@ -23,6 +23,11 @@ one-first p k i j hi hj ti tj before-i before-j =
 -- a refusal is no acceptance
 pub not-both {ℓ} : {A : Type 0} {B : Type ℓ} {v : A} {n p : ℕ} → refused n p ≡ accepted v → B
 not-both e = absurd (let z : _≡_ {A = ℕ} 0 1 = cc in omega arith)
+
+-- what is said to be accepted is
+pub value-of : {A B : Type 0} (f : A → B) (a : Answer A) {b : B} → mapped f a ≡ accepted b → (v : A) × (a ≡ accepted v) × (f v ≡ b)
+value-of f (accepted v) e = (v, refl, cc)
+value-of f (refused n p) e = not-both e
 
 same-refusal : {A : Type 0} {ds : List Demand} {n q number place : ℕ} → _≡_ {A = Answer A} (refused n q) (refused number place)
     → Stops ds n q → Stops ds number place

@@ -1,30 +1,32 @@
--- What the writer accepts is read back unchanged: the fields and the bodies. Assumes nothing.
+-- What the writer accepts is read back unchanged, from the words that it leaves: the fields and the bodies. Assumes
+-- nothing.
 use mathlib.Core.Path.{_≡_, refl, sym, ap, ap₂, _∙_, subst}
 use mathlib.Core.Bool.{true, false}
 use mathlib.Core.List.{List, [], _∷_}
 use Prim.Native.Nat.{ℕ, _^_, _<_}
 use native.Mathlib.Omega.{arith}
-use borrow.Author.Tests.{eq-eqb}
+use borrow.Author.Tests.{eq-eqb, eqb-true}
 use lib.ListN.{length, getD}
 use Rattle.bits.specs.Row.{Below}
-use Rattle.answer.specs.Answer.{Answer.accepted}
+use Rattle.answer.specs.Answer.{Answer, Answer.accepted, mapped, verdict, after}
 use Rattle.answer.specs.Demand.{Demand.asks, Demand.findsNone, AllMet, _&_}
 use Rattle.answer.proofs.Chains.{both-met}
+use Rattle.answer.proofs.Residues.{whole}
 use Rattle.anc.specs.Word.{parities, wrongAt}
 use Rattle.anc.specs.Head.{headDemands}
 use Rattle.anc.specs.Enclosed.{sumStands}
 use Rattle.codes.specs.Lanes.{checkOctets}
 use Rattle.codes.proofs.CheckLaws.{checks-satisfy}
 use Rattle.codes.proofs.RepairedLanes.{satisfied-passes}
-use Rattle.hd_packet.specs.Packet.{octetsOf, packetOf, groupOfDid, packetHead, dataOctets, fieldsIn, bodiesIn, spareDemands, oddBody}
+use Rattle.hd_packet.specs.Packet.{octetsOf, packetOf, did, dc, groupOfDid, packetHead, dataOctets, fieldsIn, bodiesIn, spareDemands, oddBody}
 use Rattle.hd_packet.specs.declared.Fields.{Fields}
 use Rattle.hd_packet.proofs.PacketLaws.{length-packet}
 use Rattle.hd_packet.proofs.Laid.{length-data, fields-back, spares-clear}
 use Rattle.hd_packet.proofs.Laid.{bodies-back as laid-back}
 use Rattle.hd_packet.proofs.Words.{narrow, right-words, right-sum, group-named, head-stands}
-use Rattle.hd_write.specs.Write.{writeAnswer, packetWritten}
-use Rattle.hd_write.proofs.WriteLaws.{writtenOctets, length-written, packet-of-octets, written-below, written-octets, Accepted, accepting, clear-body}
-use Rattle.hd_read.specs.Read.{wordDemands, octetDemands, readDemands, readAnswer}
+use Rattle.hd_write.specs.Write.{writeAnswer, packetWritten, wordsWritten}
+use Rattle.hd_write.proofs.WriteLaws.{writtenOctets, length-written, packet-of-octets, written-below, written-octets, Accepted, packet-left, clear-body}
+use Rattle.hd_read.specs.Read.{wordDemands, octetDemands, readDemands, readAnswer, fieldsRead, bodiesRead, bodiesAfter}
 use Rattle.hd_read.proofs.ReadLaws.{reads}
 
 module _ (f : Fields) (bodies : List ℕ) (below : Below (2 ^ 32) bodies) (a : Accepted f bodies) where
@@ -73,9 +75,39 @@ module _ (f : Fields) (bodies : List ℕ) (below : Below (2 ^ 32) bodies) (a : A
       ∙ ap₂ (λ (g : ℕ) (os : List ℕ). accepted (fieldsIn g os, bodiesIn os)) (group-named f bodies cs (a .within) long) octets
       ∙ ap₂ (λ (g : Fields) (bs : List ℕ). accepted (g, bs)) (fields-back f bodies cs (a .within)) bodies-back
 
--- THE PROMISE: what the writer accepts is read back unchanged
-pub read-written : (f : Fields) (bodies : List ℕ) {words : List ℕ} → Below (2 ^ 32) bodies → writeAnswer f bodies 31 ≡ accepted words
-    → readAnswer words 4 ≡ accepted (f, bodies)
-read-written f bodies below e =
-    let k = accepting f bodies 31 e in
-    ap (λ (ws : List ℕ). readAnswer ws 4) (sym (k .1) ∙ packet-of-octets f bodies) ∙ packet-read f bodies below (k .0)
+-- ---- the promises, of the words that the writer leaves in 31 lent ones
+
+module _ (f : Fields) (bodies old : List ℕ) (below : Below (2 ^ 32) bodies)
+    (accepts : verdict (writeAnswer f bodies (length old)) ≡ accepted tt) where
+  sound : Accepted f bodies
+  sound = packet-left f bodies old accepts .0
+
+  left : wordsWritten f bodies old ≡ packet f bodies below sound
+  left = packet-left f bodies old accepts .1 ∙ packet-of-octets f bodies
+
+  -- the reader, given them and room for four bodies, gives the fields
+  pub read-written : (room : List ℕ) → length room ≡ 4 → mapped fieldsRead (readAnswer (wordsWritten f bodies old) (length room)) ≡ accepted f
+  read-written room h =
+      ap₂ (λ (ws : List ℕ) (n : ℕ). mapped fieldsRead (readAnswer ws n)) left h ∙ ap (mapped fieldsRead) (packet-read f bodies below sound)
+
+  -- and leaves the bodies
+  pub bodies-written : (room : List ℕ) → length room ≡ 4 → bodiesAfter (wordsWritten f bodies old) room ≡ bodies
+  bodies-written room h =
+      ap₂ (λ (ws : List ℕ) (n : ℕ). after bodiesRead (readAnswer ws n) room) left h
+      ∙ ap (λ (a : Answer (Fields × List ℕ)). after bodiesRead a room) (packet-read f bodies below sound)
+      ∙ whole bodiesRead (f, bodies) room (sound .four ∙ sym h)
+
+  -- word 3 is the DID that is listed for the group, word 5 the DC
+  pub did-written : getD (wordsWritten f bodies old) 3 0 ≡ did (f .group)
+  did-written =
+      let p = packet f bodies below sound in
+      let l = length-written f bodies in
+      ap (λ (ws : List ℕ). getD ws 3 0) left
+      ∙ eqb-true (getD p 3 0) _ (head-stands f bodies (checkOctets (dataOctets f bodies)) (sound .within) l .1 .1 .1 .0)
+      ∙ ap did (group-named f bodies (checkOctets (dataOctets f bodies)) (sound .within) l)
+
+  pub dc-written : getD (wordsWritten f bodies old) 5 0 ≡ dc
+  dc-written =
+      ap (λ (ws : List ℕ). getD ws 5 0) left
+      ∙ eqb-true (getD (packet f bodies below sound) 5 0) dc
+      (head-stands f bodies (checkOctets (dataOctets f bodies)) (sound .within) (length-written f bodies) .1 .1 .1 .1 .0)

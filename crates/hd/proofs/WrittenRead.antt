@@ -1,5 +1,5 @@
--- Writing back an accepted packet gives the same 31 words. Assumes nothing.
-use mathlib.Core.Path.{_≡_, refl, sym, ap, _∙_, subst}
+-- Writing back an accepted packet, with the bodies that the reader leaves, gives the same 31 words. Assumes nothing.
+use mathlib.Core.Path.{_≡_, refl, sym, ap, ap₂, _∙_, subst}
 use mathlib.Core.Bool.{true, false}
 use mathlib.Core.List.{List, [], _∷_, _++_}
 use Prim.Native.Nat.{ℕ, _+_, _*_, _%_, _^_, _≤_, _<_}
@@ -7,9 +7,10 @@ use native.Mathlib.Omega.{arith}
 use borrow.Author.Tests.{eqb-true}
 use lib.ListN.{length, getD, take, drop, take-append-drop}
 use Rattle.bits.specs.Row.{Below}
-use Rattle.answer.specs.Answer.{Answer.accepted}
+use Rattle.answer.specs.Answer.{Answer, Answer.accepted, mapped, verdict, after, rewritten}
 use Rattle.answer.specs.Demand.{Demand.asks, Demand.findsNone, AllMet}
-use Rattle.answer.proofs.Chains.{parts-met}
+use Rattle.answer.proofs.Chains.{value-of, parts-met}
+use Rattle.answer.proofs.Residues.{whole}
 use Rattle.anc.specs.Word.{parities, wideAt, wrongAt}
 use Rattle.anc.specs.Head.{headDemands}
 use Rattle.anc.specs.Enclosed.{sumStands}
@@ -22,9 +23,9 @@ use Rattle.hd_packet.proofs.PacketLaws.{length-octets, octets-below}
 use Rattle.hd_packet.proofs.Channels.{body-in, body-low, four-bodies}
 use Rattle.hd_packet.proofs.Laid.{read-ranges, data-back}
 use Rattle.hd_packet.proofs.Words.{same-words, group-read, head-octets}
-use Rattle.hd_write.specs.Write.{lowBody, writeAnswer, packetWritten}
-use Rattle.hd_write.proofs.WriteLaws.{low-false, packet-of-octets, Accepted, accepts}
-use Rattle.hd_read.specs.Read.{wordDemands, octetDemands, readDemands, readAnswer}
+use Rattle.hd_write.specs.Write.{lowBody, writeAnswer, packetWritten, wordsWritten}
+use Rattle.hd_write.proofs.WriteLaws.{low-false, packet-of-octets, packet-size, Accepted, accepting, accepts}
+use Rattle.hd_read.specs.Read.{wordDemands, octetDemands, readDemands, readAnswer, fieldsRead, bodiesRead, bodiesAfter}
 use Rattle.hd_read.proofs.ReadLaws.{read-met}
 
 module _ (words : List ℕ) (met : AllMet (readDemands words 4)) where
@@ -96,8 +97,32 @@ module _ (words : List ℕ) (met : AllMet (readDemands words 4)) where
   writes-back : writeAnswer f (bodiesIn os) 31 ≡ accepted words
   writes-back = accepts f (bodiesIn os) ok ∙ ap accepted same-packet
 
--- THE PROMISE: writing back an accepted packet gives the same 31 words
-pub written-read : (words : List ℕ) (v : Fields × List ℕ) → readAnswer words 4 ≡ accepted v → writeAnswer (v .0) (v .1) 31 ≡ accepted words
-written-read words v e =
-    let m = read-met words 4 v e in
-    subst (λ (w : Fields × List ℕ). writeAnswer (w .0) (w .1) 31 ≡ accepted words) (m .1) (writes-back words (m .0))
+-- ---- the promises, of the bodies that the reader leaves in four lent ones
+
+module _ (words room : List ℕ) (f : Fields) (accepts : mapped fieldsRead (readAnswer words (length room)) ≡ accepted f) where
+  reading : (v : Fields × List ℕ) × (readAnswer words (length room) ≡ accepted v) × (fieldsRead v ≡ f)
+  reading = value-of fieldsRead (readAnswer words (length room)) accepts
+
+  four : length room ≡ 4
+  four = eqb-true (length room) 4 (read-met words (length room) (reading .0) (reading .1) .0 .1 .0)
+
+  written : writeAnswer f (bodiesAfter words room) 31 ≡ accepted words
+  written =
+      let m = read-met words (length room) (reading .0) (reading .1) in
+      let same : fieldsIn (groupOfDid (getD words 3 0)) (octetsOf words) ≡ f = ap fieldsRead (m .1) ∙ reading .2 in
+      let left : bodiesAfter words room ≡ bodiesIn (octetsOf words) =
+      ap (λ (a : Answer (Fields × List ℕ)). after bodiesRead a room) (reading .1 ∙ ap accepted (sym (m .1)))
+      ∙ whole bodiesRead (fieldsIn (groupOfDid (getD words 3 0)) (octetsOf words), bodiesIn (octetsOf words)) room
+      (four-bodies (octetsOf words) ∙ sym four) in
+      ap₂ (λ (g : Fields) (bs : List ℕ). writeAnswer g bs 31) (sym same) left
+      ∙ writes-back words (subst (λ (n : ℕ). AllMet (readDemands words n)) four (m .0))
+
+  -- the writer, given the fields, those bodies and room for 31 words, accepts
+  pub written-read : (old : List ℕ) → length old ≡ 31 → verdict (writeAnswer f (bodiesAfter words room) (length old)) ≡ accepted tt
+  written-read old h = ap (λ (n : ℕ). verdict (writeAnswer f (bodiesAfter words room) n)) h ∙ ap verdict written
+
+  -- and leaves the same 31 words
+  pub words-back : (old : List ℕ) → length old ≡ 31 → wordsWritten f (bodiesAfter words room) old ≡ words
+  words-back old h =
+      ap (λ (n : ℕ). rewritten (writeAnswer f (bodiesAfter words room) n) old) h ∙ ap (λ (a : Answer (List ℕ)). rewritten a old) written
+      ∙ whole (λ (ws : List ℕ). ws) words old (ap length (sym (accepting f (bodiesAfter words room) 31 written .1)) ∙ packet-size f (bodiesAfter words room) ∙ sym h)

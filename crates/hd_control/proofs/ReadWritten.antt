@@ -7,10 +7,11 @@ use native.Mathlib.Omega.{arith}
 use borrow.Author.Tests.{eq-eqb, eqb-true}
 use lib.ListN.{length, getD, take, drop}
 use lib.Seq.{ext-getD}
-use Rattle.answer.specs.Answer.{Answer.accepted}
+use Rattle.answer.specs.Answer.{Answer, Answer.accepted, verdict, rewritten}
 use Rattle.answer.specs.Demand.{Demand.asks, Demand.findsNone, AllMet, _&_}
 use Rattle.answer.proofs.Chains.{passing, parts-met}
 use Rattle.answer.proofs.Chains.{met as met-by}
+use Rattle.answer.proofs.Residues.{whole}
 use Rattle.anc.specs.Word.{widthBy, wideAt, wrongAt}
 use Rattle.anc.specs.Head.{didIn, groupIn, headDemands}
 use Rattle.anc.specs.Enclosed.{wordsBy, valuesBy, enclosed, sumStands, enclosedDemands}
@@ -19,7 +20,7 @@ use Rattle.anc.proofs.Enclosing.{packet-back, run-values, run-value}
 use Rattle.subframe.specs.Signed.{codeOf, signedOf}
 use Rattle.subframe.proofs.SignedLaws.{signed-in, code-signed}
 use Rattle.hd_control.specs.Control.{dids, dc, controlHead, ruleOf, delayNumber, controlValues, controlPacket, delayAt, controlIn}
-use Rattle.hd_control.specs.Write.{writeDemands, writeAnswer}
+use Rattle.hd_control.specs.Write.{writeDemands, writeAnswer, wordsWritten}
 use Rattle.hd_control.specs.Read.{stateDemands, readDemands, readAnswer}
 use Rattle.hd_control.specs.Inner.{Ranges}
 use Rattle.hd_control.specs.declared.Control.{Control}
@@ -145,9 +146,14 @@ module _ (words : List ℕ) (met : AllMet (readDemands words)) where
       passing (accepted (controlPacket c)) (writeDemands c 18) (refl & ranged c within & halves .1 .1 .0 & halves .1 .1 .1 .1 .0 & tt)
       ∙ ap accepted same-packet
 
--- THE PROMISE: writing back an accepted packet gives the same 18 words
-pub control-written-read : (words : List ℕ) (c : Control) → readAnswer words ≡ accepted c → writeAnswer c 18 ≡ accepted words
+-- the writer, given the fields of an accepted packet and 18 lent words, accepts, and leaves the same 18 words
+pub control-written-read : (words : List ℕ) (c : Control) → readAnswer words ≡ accepted c → (old : List ℕ) → length old ≡ 18
+    → (verdict (writeAnswer c (length old)) ≡ accepted tt) × (wordsWritten c old ≡ words)
 unfolding readAnswer
-control-written-read words c e =
+control-written-read words c e old h =
     let m = met-by (controlIn words) (readDemands words) e in
-    subst (λ (f : Control). writeAnswer f 18 ≡ accepted words) (m .1) (writes-back words (m .0))
+    let w : writeAnswer c (length old) ≡ accepted words =
+    ap (writeAnswer c) h ∙ subst (λ (f : Control). writeAnswer f 18 ≡ accepted words) (m .1) (writes-back words (m .0)) in (
+      ap verdict w,
+      ap (λ (a : Answer (List ℕ)). rewritten a old) w ∙ whole (λ v. v) words old (eqb-true (length words) 18 (m .0 .0) ∙ sym h),
+    )

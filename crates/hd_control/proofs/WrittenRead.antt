@@ -1,15 +1,16 @@
--- What the writer accepts is read back unchanged. Assumes nothing.
+-- What the writer accepts is read back unchanged, from the words that it leaves. Assumes nothing.
 use mathlib.Core.Path.{_≡_, refl, sym, ap, ap₂, _∙_, subst}
 use mathlib.Core.Bool.{Bool, true, false, not}
 use mathlib.Core.List.{List, [], _∷_}
 use Prim.Native.Nat.{ℕ, _+_, _*_, _/_, _%_, _^_, _≤_, _<_}
 use native.Mathlib.Omega.{arith}
-use borrow.Author.Tests.{eq-eqb}
+use borrow.Author.Tests.{eq-eqb, eqb-true}
 use lib.IntN.{ℤ}
 use lib.ListN.{length, getD}
-use Rattle.answer.specs.Answer.{Answer.accepted}
+use Rattle.answer.specs.Answer.{Answer, Answer.accepted, verdict, rewritten}
 use Rattle.answer.specs.Demand.{Demand.asks, Demand.findsNone, AllMet, _&_}
-use Rattle.answer.proofs.Chains.{met, passing, both-met}
+use Rattle.answer.proofs.Chains.{value-of, met, passing, both-met}
+use Rattle.answer.proofs.Residues.{whole as filled}
 use Rattle.anc.specs.Word.{opposed, wordOf, wrongAt}
 use Rattle.anc.specs.Head.{didIn, groupIn, headDemands}
 use Rattle.anc.specs.Enclosed.{wordsBy, enclosed, sumStands, enclosedDemands}
@@ -18,11 +19,11 @@ use Rattle.anc.proofs.Enclosing.{length-enclosed, sum-enclosed, packet-long, pa
 use Rattle.subframe.specs.Signed.{inRange, codeOf, signedOf}
 use Rattle.subframe.proofs.SignedLaws.{signed-code}
 use Rattle.hd_control.specs.Control.{dids, dc, controlHead, ruleOf, misused, reserved, delayNumber, controlValues, controlPacket, delayAt, controlIn}
-use Rattle.hd_control.specs.Write.{writeDemands, writeAnswer}
+use Rattle.hd_control.specs.Write.{writeDemands, writeAnswer, wordsWritten}
 use Rattle.hd_control.specs.Read.{stateDemands, readDemands, readAnswer}
 use Rattle.hd_control.specs.Inner.{Ranges}
 use Rattle.hd_control.specs.declared.Control.{Control}
-use Rattle.hd_control.proofs.ControlLaws.{ranges, did-group, did-word, dbn-word, dc-word, packet-of, fourteen, delay-number-lt, values-fit}
+use Rattle.hd_control.proofs.ControlLaws.{ranges, did-group, did-word, dbn-word, dc-word, packet-of, fourteen, packet-size, delay-number-lt, values-fit}
 
 not-true : (t : Bool) → not t ≡ true → t ≡ false
 not-true false e = refl
@@ -161,11 +162,16 @@ module _ (c : Control) (r : Ranges c) (plain : misused (c .asynchronous) (c .fra
       (eq-eqb (length ws) 18 long & both-met (enclosedDemands ruleOf 14 (controlHead ws) ws) (stateDemands ws) words-met states)
       ∙ ap accepted fields
 
--- THE PROMISE: what the writer accepts is read back unchanged
-pub control-read-written : (c : Control) {words : List ℕ} → writeAnswer c 18 ≡ accepted words → readAnswer words ≡ accepted c
+-- the reader, given the words that the writer leaves in 18 lent ones, gives the same fields
+pub control-read-written : (c : Control) (old : List ℕ) → verdict (writeAnswer c (length old)) ≡ accepted tt
+    → readAnswer (wordsWritten c old) ≡ accepted c
 unfolding writeAnswer
-control-read-written c e =
-    let m = met (controlPacket c) (writeDemands c 18) e in
-    ap readAnswer (sym (m .1) ∙ sym (packet-of c))
+control-read-written c old e =
+    let v = value-of (λ w. tt) (writeAnswer c (length old)) e in
+    let m = met (controlPacket c) (writeDemands c (length old)) (v .1) in
+    let left : wordsWritten c old ≡ controlPacket c =
+    ap (λ (a : Answer (List ℕ)). rewritten a old) (v .1 ∙ ap accepted (sym (m .1)))
+    ∙ filled (λ w. w) (controlPacket c) old (packet-size c ∙ sym (eqb-true (length old) 18 (m .0 .0))) in
+    ap readAnswer (left ∙ sym (packet-of c))
     ∙ packet-read c (ranges c (m .0 .1 .0)) (not-true (misused (c .asynchronous) (c .frame)) (m .0 .1 .1 .0))
     (not-true (reserved (c .rate)) (m .0 .1 .1 .1 .0))

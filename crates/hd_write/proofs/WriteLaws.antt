@@ -1,5 +1,5 @@
 -- Laws of the writer's tests, of the packet that it writes, and of its acceptance. Assumes nothing.
-use mathlib.Core.Path.{_≡_, refl, ap, _∙_}
+use mathlib.Core.Path.{_≡_, refl, sym, ap, _∙_}
 use mathlib.Core.Bool.{true, false, not, _&&_}
 use mathlib.Core.List.{List, _++_}
 use Prim.Native.Nat.{ℕ, _+_, _%_, _^_, _≤_, _<_}
@@ -9,9 +9,10 @@ use lib.Dec.{eqb, leb}
 use lib.ListN.{length, getD, length-append}
 use Rattle.bits.specs.Row.{Below}
 use Rattle.bits.proofs.Tests.{both-true}
-use Rattle.answer.specs.Answer.{Answer.accepted}
+use Rattle.answer.specs.Answer.{Answer, Answer.accepted, verdict, rewritten}
 use Rattle.answer.specs.Demand.{_&_}
-use Rattle.answer.proofs.Chains.{met, passing}
+use Rattle.answer.proofs.Chains.{value-of, met, passing}
+use Rattle.answer.proofs.Residues.{whole}
 use Rattle.codes.specs.Lanes.{checkOctets}
 use Rattle.codes.proofs.CheckLaws.{length-checks, checks-below}
 use Rattle.hd_packet.specs.Packet.{octetsOf, packetOf, Ranges, dataOctets, oddBody}
@@ -19,7 +20,7 @@ use Rattle.hd_packet.specs.declared.Fields.{Fields}
 use Rattle.hd_packet.proofs.Channels.{below-append}
 use Rattle.hd_packet.proofs.Laid.{length-data, data-below, adf-octets}
 use Rattle.hd_packet.proofs.PacketLaws.{length-packet, octets-packet}
-use Rattle.hd_write.specs.Write.{inRanges, lowBody, packetWritten, writeDemands, writeAnswer}
+use Rattle.hd_write.specs.Write.{inRanges, lowBody, packetWritten, writeDemands, writeAnswer, wordsWritten}
 
 -- ---- the tests of a body
 
@@ -138,6 +139,18 @@ module _ (f : Fields) (bodies : List ℕ) where
           clear = λ n l. m .1 .1 .1 .1 .0 n (omega arith) (omega (arith, four));
         },
         k .1,
+      )
+
+  -- and then the packet stands in the 31 words lent
+  pub packet-left : (old : List ℕ) → verdict (writeAnswer f bodies (length old)) ≡ accepted tt
+      → Accepted f bodies × (wordsWritten f bodies old ≡ packetWritten f bodies)
+  unfolding writeAnswer
+  packet-left old e =
+      let v = value-of (λ w. tt) (writeAnswer f bodies (length old)) e in
+      let m = met (packetWritten f bodies) (writeDemands f bodies (length old)) (v .1) in (
+        accepting (length old) (v .1) .0,
+        ap (λ (a : Answer (List ℕ)). rewritten a old) (v .1 ∙ ap accepted (sym (m .1)))
+            ∙ whole (λ w. w) (packetWritten f bodies) old (packet-size f bodies ∙ sym (eqb-true (length old) 31 (m .0 .1 .0))),
       )
 
   pub accepts : Accepted f bodies → writeAnswer f bodies 31 ≡ accepted (packetWritten f bodies)

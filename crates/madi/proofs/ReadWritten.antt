@@ -13,8 +13,8 @@ use Rattle.bits.specs.Pack.{chain, octets}
 use Rattle.bits.specs.Cross.{across}
 use Rattle.bits.proofs.Digits.{digit-odd}
 use Rattle.bits.proofs.Packing.{length-pack}
-use Rattle.answer.specs.Answer.{Answer, Answer.accepted, Answer.refused, mapped, verdict, after, rewritten}
-use Rattle.answer.proofs.Chains.{not-both}
+use Rattle.answer.specs.Answer.{Answer, Answer.accepted, mapped, verdict, after, rewritten}
+use Rattle.answer.proofs.Chains.{value-of}
 use Rattle.answer.proofs.Residues.{whole}
 use Rattle.subframe.specs.Body.{evenBody}
 use Rattle.line.specs.Nrzi.{levels}
@@ -156,10 +156,6 @@ module _ (channels : ℕ) (words commands : List ℕ) (level room : ℕ) (w : Wr
 
 -- ---- the promise
 
-written : (a : Answer (List ℕ)) → verdict a ≡ accepted tt → (l : List ℕ) × (a ≡ accepted l)
-written (accepted l) e = (l, refl)
-written (refused n p) e = not-both e
-
 module _ (channels : ℕ) (words commands : List ℕ) (level : ℕ) (old : List ℕ) (small : Below (2 ^ 32) words)
     (accepts : verdict (frameWritten channels words commands level (length old)) ≡ accepted tt) where
   -- the octets needed, of the buffer that the writer leaves
@@ -171,11 +167,11 @@ module _ (channels : ℕ) (words commands : List ℕ) (level : ℕ) (old : List 
   bits = boundary channels (length commands)
 
   line : List ℕ
-  line = written (frameWritten channels words commands level (length old)) accepts .0
+  line = value-of (λ v. tt) (frameWritten channels words commands level (length old)) accepts .0
 
   took : frameWritten channels words commands level (length old) ≡ accepted line
   unfolding line
-  took = written (frameWritten channels words commands level (length old)) accepts .1
+  took = value-of (λ v. tt) (frameWritten channels words commands level (length old)) accepts .1
 
   may : Writable channels words commands level (length old)
   may = accepted-frame channels words commands level (length old) line took .0
