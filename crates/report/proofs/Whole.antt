@@ -1,55 +1,64 @@
--- The report as a whole: the count line always ends it; and what a caller of the steps goes on with. Assumes nothing.
+-- The report as a whole: a line for each record, and the count line, which has their number, always ends it; and what a
+-- caller of the steps goes on with. Assumes nothing.
 use mathlib.Core.Path.{_≡_, refl, sym, ap, _∙_}
 use mathlib.Core.Bool.{true, false}
-use mathlib.Core.List.{List, [], _++_, append-assoc}
+use mathlib.Core.Logic.{_⊎_, inl, inr}
+use mathlib.Core.List.{List, [], _∷_, _++_, append-assoc}
 use Prim.Native.Nat.{ℕ, zero, suc, _+_, _-_, _<_}
+use native.Mathlib.Nat.{add-zero}
 use native.Mathlib.Omega.{arith}
 use borrow.Author.Tests.{ltb-false}
 use lib.Dec.{eqb, ltb}
 use lib.ListN.{length, take, drop, length-drop}
 use Rattle.bits.proofs.Tests.{pick-cases, no-yes}
-use Rattle.answer.specs.Answer.{Answer.refused}
+use Rattle.answer.specs.Answer.{Answer, Answer.refused}
 use Rattle.records.specs.Head.{sizeOf}
-use Rattle.records.specs.Record.{recordAnswer}
+use Rattle.records.specs.Record.{Content, recordAnswer}
 use Rattle.records.specs.declared.Turn.{Turn}
 use Rattle.records.proofs.HeadLaws.{turn-cases}
 use Rattle.report.specs.Text.{heading, cutLine, lineOf, countLine}
-use Rattle.report.specs.Report.{Printed, reportOn, reportOf, ending, going, printedFor, printed, stepOf}
+use Rattle.report.specs.Report.{Printed, linesFrom, Counted, reportOn, reportOf, ending, going, printedFor, printed, stepOf}
 use Rattle.report.specs.declared.Step.{Step}
 
 -- ---- the count line always ends the report
 
-pub record Counted (text : List ℕ) : Type 0 where
-  pub lines : List ℕ
-  pub records : ℕ
-  pub ends : text ≡ lines ++ countLine records
+-- after a tail
+ended : (n : ℕ) (tail : List ℕ) → (tail ≡ cutLine) ⊎ (tail ≡ []) → Counted n (tail ++ countLine n)
+unfolding linesFrom
+ended n tail h =
+    record { answers = []; tail = tail; cut-or-none = h; ends = ap (λ (k : ℕ). tail ++ countLine k) (sym (add-zero n)) }
 
-ended : (lines : List ℕ) (n : ℕ) → Counted (lines ++ countLine n)
-ended lines n = record { lines = lines; records = n; ends = refl }
-
-behind : (text : List ℕ) {rest : List ℕ} → Counted rest → Counted (text ++ rest)
-behind text c =
+-- a record more before what follows
+behind : (n : ℕ) (a : Answer Content) {rest : List ℕ} → Counted (n + 1) rest → Counted n (lineOf (n + 1) a ++ rest)
+unfolding linesFrom
+behind n a c =
+    let lines = linesFrom (n + 1) (c .answers) in
+    let k : n + 1 + length (c .answers) ≡ n + length (a ∷ c .answers) = omega arith in
     record {
-      lines = text ++ c .lines;
-      records = c .records;
-      ends = ap (λ (r : List ℕ). text ++ r) (c .ends) ∙ sym (append-assoc text (c .lines) (countLine (c .records)));
+      answers = a ∷ c .answers;
+      tail = c .tail;
+      cut-or-none = c .cut-or-none;
+      ends =
+          ap (λ (r : List ℕ). lineOf (n + 1) a ++ r) (c .ends ∙ ap (λ (m : ℕ). lines ++ (c .tail ++ countLine m)) k)
+          ∙ sym (append-assoc (lineOf (n + 1) a) lines (c .tail ++ countLine (n + length (a ∷ c .answers))));
     }
 
-counted-on : (most n : ℕ) (input : List ℕ) → length input < most → Counted (reportOn most n input)
+counted-on : (most n : ℕ) (input : List ℕ) → length input < most → Counted n (reportOn most n input)
 unfolding reportOn
 counted-on zero n input h = absurd (omega arith)
 counted-on (suc most) n input h =
-    pick-cases Counted (eqb (length input) 0) _ _ (λ t. ended [] n)
-    (λ f. pick-cases Counted (ltb (length input) 4) _ _ (λ t. ended cutLine n)
-    (λ g. pick-cases Counted (ltb 8192 (sizeOf input)) _ _ (λ t. ended (lineOf (n + 1) (refused 2 0)) (n + 1))
-    (λ i. pick-cases Counted (ltb (length input - 4) (sizeOf input)) _ _ (λ t. ended cutLine n)
-    (λ j. behind (lineOf (n + 1) (recordAnswer (take (sizeOf input) (drop 4 input))))
+    pick-cases (Counted n) (eqb (length input) 0) _ _ (λ t. ended n [] (inr refl))
+    (λ f. pick-cases (Counted n) (ltb (length input) 4) _ _ (λ t. ended n cutLine (inl refl))
+    (λ g. pick-cases (Counted n) (ltb 8192 (sizeOf input)) _ _ (λ t. behind n (refused 2 0) (ended (n + 1) [] (inr refl)))
+    (λ i. pick-cases (Counted n) (ltb (length input - 4) (sizeOf input)) _ _ (λ t. ended n cutLine (inl refl))
+    (λ j. behind n (recordAnswer (take (sizeOf input) (drop 4 input)))
     (counted-on most (n + 1) (drop (4 + sizeOf input) input)
     (omega (arith, ltb-false (length input) 4 g, length-drop (4 + sizeOf input) input)))))))
 
-pub count-ends : (input : List ℕ) → Counted (reportOf input)
+-- the report: the heading, and then so
+pub count-ends : (input : List ℕ) → (text : List ℕ) × (reportOf input ≡ heading ++ text) × Counted 0 text
 unfolding reportOf
-count-ends input = behind heading (counted-on (suc (length input)) 0 input (omega arith))
+count-ends input = (reportOn (suc (length input)) 0 input, refl, counted-on (suc (length input)) 0 input (omega arith))
 
 -- ---- what a caller goes on with
 

@@ -2,13 +2,15 @@
 -- as many octets. Beside it what is printed of one record from the octets that there were of it. Assumes nothing.
 use Prim.Native.Nat.{ℕ, zero, suc, _+_, _-_}
 use mathlib.Core.Bool.{Bool, true, false}
-use mathlib.Core.List.{List, [], _++_}
+use mathlib.Core.Path.{_≡_}
+use mathlib.Core.Logic.{_⊎_}
+use mathlib.Core.List.{List, [], _∷_, _++_}
 use lib.Dec.{eqb, ltb}
 use lib.ListN.{length, take, drop}
 use Rattle.bits.specs.Pick.{pick}
-use Rattle.answer.specs.Answer.{Answer.refused}
+use Rattle.answer.specs.Answer.{Answer, Answer.refused}
 use Rattle.records.specs.Head.{longest, sizeOf, turnOf}
-use Rattle.records.specs.Record.{recordAnswer}
+use Rattle.records.specs.Record.{Content, recordAnswer}
 use Rattle.records.specs.declared.Turn.{Turn}
 use Rattle.records.specs.declared.Turn.the-variants.{End, Cut, Long, Record}
 use Rattle.report.specs.Text.{heading, cutLine, lineOf, countLine}
@@ -32,6 +34,21 @@ reportOn (suc most) n input =
 -- the whole report; each record takes four octets at least, so that there are fewer records than octets
 unfoldable pub reportOf : List ℕ → List ℕ
 reportOf input = heading ++ reportOn (suc (length input)) 0 input
+
+-- ---- what a report is made of
+
+-- the lines of records that were answered so, the first of them record n + 1
+unfoldable pub linesFrom : ℕ → List (Answer Content) → List ℕ
+linesFrom n [] = []
+linesFrom n (a ∷ answers) = lineOf (n + 1) a ++ linesFrom (n + 1) answers
+
+-- after n records: a line for each record that is counted, numbered in order; `cut` or nothing; and the count line, whose number is that
+-- of all records counted
+pub record Counted (n : ℕ) (text : List ℕ) : Type 0 where
+  pub answers : List (Answer Content)
+  pub tail : List ℕ
+  pub cut-or-none : (tail ≡ cutLine) ⊎ (tail ≡ [])
+  pub ends : text ≡ linesFrom n answers ++ (tail ++ countLine (n + length answers))
 
 -- ---- one record
 
