@@ -13,14 +13,16 @@ use Rattle.bits.specs.Pack.{octets}
 use Rattle.bits.specs.Cross.{across}
 use Rattle.bits.proofs.Counts.{count-le}
 use Rattle.bits.proofs.Crossing.{length-across}
-use Rattle.answer.specs.Answer.{Answer, Answer.accepted, verdict, rewritten}
+use Rattle.answer.specs.Answer.{Answer, Answer.accepted, mapped, verdict, after, rewritten}
 use Rattle.answer.specs.Demand.{AllMet, _&_}
+use Rattle.answer.proofs.Chains.{value-of}
+use Rattle.answer.proofs.Residues.{whole}
 use Rattle.subframe.specs.Body.{evenBody}
 use Rattle.line.specs.Nrzi.{levels}
 use Rattle.madi_code.specs.Frame.{boundary, numbered, synced}
 use Rattle.madi_code.proofs.FrameLaws.{counted-some}
-use Rattle.madi_read.specs.Reader.{carried, Frame, cleared, frameRead, commandsOf}
-use Rattle.madi_read.proofs.Copying.{list-front}
+use Rattle.madi_read.specs.Reader.{carried, Frame, cleared, frameRead, countsOf, wordsOf, commandsOf}
+use Rattle.madi_read.proofs.Copying.{length-list, list-front}
 use Rattle.madi_read.proofs.Lines.{line-again}
 use Rattle.madi_read.proofs.Accepting.{Accepted, accepting}
 use Rattle.madi_write.specs.Writer.{marked, channelWords, frameRow, needed, frameOctets, isList, writeDemands, frameWritten}
@@ -31,7 +33,7 @@ use Rattle.madi.proofs.ExactReading.{Stood, counts-stood}
 use Rattle.madi.proofs.LastCommands.{Row-of, last-row}
 use Rattle.madi.proofs.Words.{sent-again, even-again, clear-again}
 
--- ---- the promise
+-- ---- a frame that is read
 
 module _ (channels level bits : ℕ) (line : List ℕ) (room places : ℕ) (f : Frame) (octal : Below 256 line)
     (reads : frameRead channels level bits line room places ≡ accepted f) where
@@ -143,25 +145,51 @@ module _ (channels level bits : ℕ) (line : List ℕ) (room places : ℕ) (f : 
     again-written : (space : ℕ) → length line ≤ space → frameWritten channels given cs level space ≡ accepted line
     again-written space h = frame-accepted channels given cs level space (meets space h) ∙ ap accepted same-line
 
-    -- the commands that the caller takes from the list, as many as came
-    abbrev pub taken : List ℕ
-    taken = take (length (f .commands)) (commandsOf f)
+-- ---- the promise: of the words and of the list of commands that the reader leaves, with the counts that it answers
 
-    list-taken : taken ≡ f .commands
-    list-taken = list-front (f .commands)
+module _ (channels level bits : ℕ) (line words list : List ℕ) (n s : ℕ) (octal : Below 256 line)
+    (accepts : mapped countsOf (frameRead channels level bits line (length words) (length list)) ≡ accepted (n, s))
+    (last : CommandsLast channels (carried level bits line)) where
+  value : (f : Frame) × (frameRead channels level bits line (length words) (length list) ≡ accepted f) × (countsOf f ≡ (n, s))
+  value = value-of countsOf (frameRead channels level bits line (length words) (length list)) accepts
 
-    -- the writer, given the active words, the commands, the level and a buffer at least as long as the line, accepts
-    pub write-back : (old : List ℕ) → length line ≤ length old
-        → verdict (frameWritten channels (take (f .active) (f .words)) taken level (length old)) ≡ accepted tt
-    unfolding given a cs ws
-    write-back old h =
-        ap (λ (l : List ℕ). verdict (frameWritten channels (take (f .active) (f .words)) l level (length old))) list-taken
-        ∙ ap verdict (again-written (length old) h)
+  -- the active words, and the commands that came
+  abbrev pub active-words : List ℕ
+  active-words = take n (after wordsOf (frameRead channels level bits line (length words) (length list)) words)
 
-    -- and the line stands in front in the buffer, and after it what stood there
-    pub line-back : (old : List ℕ) → length line ≤ length old
-        → rewritten (frameWritten channels (take (f .active) (f .words)) taken level (length old)) old ≡ line ++ drop (length line) old
-    unfolding given a cs ws
-    line-back old h =
-        ap (λ (l : List ℕ). rewritten (frameWritten channels (take (f .active) (f .words)) l level (length old)) old) list-taken
-        ∙ ap (λ (x : Answer (List ℕ)). rewritten x old) (again-written (length old) h)
+  abbrev pub came : List ℕ
+  came = take s (after commandsOf (frameRead channels level bits line (length words) (length list)) list)
+
+  words-are-given : active-words ≡ given channels level bits line (length words) (length list) (value .0) octal (value .1)
+  unfolding given a ws
+  words-are-given =
+      let f = value .0 in
+      let exact = accepting channels level bits line (length words) (length list) f (value .1) .exact in
+      ap₂ (λ (k : ℕ) (l : List ℕ). take k l) (sym (ap (λ c. c .0) (value .2)))
+      (ap (λ (x : Answer Frame). after wordsOf x words) (value .1)
+      ∙ whole wordsOf f words (length-ws channels level bits line (length words) (length list) f octal (value .1) ∙ sym exact))
+
+  commands-are : came ≡ value .0 .commands
+  unfolding cs
+  commands-are =
+      let f = value .0 in
+      let listed = accepting channels level bits line (length words) (length list) f (value .1) .listed in
+      ap₂ (λ (k : ℕ) (l : List ℕ). take k l) (sym (ap (λ c. c .1) (value .2)))
+      (ap (λ (x : Answer Frame). after commandsOf x list) (value .1)
+      ∙ whole commandsOf f list (length-list (f .commands) (few channels level bits line (length words) (length list) f octal (value .1)) ∙ sym listed))
+      ∙ list-front (f .commands)
+
+  writes : (space : ℕ) → length line ≤ space → frameWritten channels active-words came level space ≡ accepted line
+  unfolding cs
+  writes space h =
+      ap₂ (λ (ws cs : List ℕ). frameWritten channels ws cs level space) words-are-given commands-are
+      ∙ again-written channels level bits line (length words) (length list) (value .0) octal (value .1) last space h
+
+  -- the writer, given them, the level and a buffer at least as long as the line, accepts
+  pub write-back : (old : List ℕ) → length line ≤ length old → verdict (frameWritten channels active-words came level (length old)) ≡ accepted tt
+  write-back old h = ap verdict (writes (length old) h)
+
+  -- and the line stands in front in the buffer, and after it what stood there
+  pub line-back : (old : List ℕ) → length line ≤ length old
+      → rewritten (frameWritten channels active-words came level (length old)) old ≡ line ++ drop (length line) old
+  line-back old h = ap (λ (x : Answer (List ℕ)). rewritten x old) (writes (length old) h)
