@@ -38,7 +38,8 @@ one = told 0 (bodyWritten (pos 1) 0 0 0) .2
 abbrev byte23 : List ℕ → List ℕ
 byte23 status = map digit (bits 8 (crccOf status))
 
--- words of the packet that is written of group 1, DBN, clock phase and ck12 0 and these Z, with a body in channel 1
+-- n words from UDWk on of the packet that is written with Z of the first pair and the body of channel 1; it is of group 1, and
+-- all else is 0
 abbrev udw : ℕ → ℕ → ℕ → ℕ → List ℕ
 udw z body k n = take n (drop (6 + k) (wordsWritten (fieldsLent 1 0 0 0 z 0) (body ∷ 0 ∷ 0 ∷ 0 ∷ []) (replicate 31 0)))
 
