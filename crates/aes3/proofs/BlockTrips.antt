@@ -11,7 +11,7 @@ use lib.ListN.{length, getD}
 use Rattle.bits.specs.Row.{odd, digit, Below}
 use Rattle.bits.specs.Pack.{symbols}
 use Rattle.bits.proofs.Digits.{digit-lt, odd-digit}
-use Rattle.answer.specs.Answer.{Answer, Answer.accepted, mapped, after, rewritten}
+use Rattle.answer.specs.Answer.{Answer, Answer.accepted, mapped, verdict, after, rewritten}
 use Rattle.answer.specs.Demand.{_&_}
 use Rattle.answer.proofs.Residues.{whole}
 use Rattle.line.specs.Biphase.{left}
@@ -95,12 +95,9 @@ module _ (line bodies : List ℕ) (octets : Below 256 line) (s : List ℤ) (t : 
   abbrev side-read : List ℕ
   side-read = after sideOf (readAnswer line (length s) (length t)) t
 
-  -- writing it back, at the level that the reader took, gives that line if E is empty, both status blocks pass 4, 5 and
-  -- 6, and no sample has a 1 below the length that its channel's status declares
-  pub read-written-back : Faultless side-read → statusChecked side-read ≡ accepted tt
-      → ((i : ℕ) → i < 384 → overlong samples-read side-read i ≡ false)
+  writes : Faultless side-read → statusChecked side-read ≡ accepted tt → ((i : ℕ) → i < 384 → overlong samples-read side-read i ≡ false)
       → writeAnswer samples-read side-read (digit (levelBefore line)) 3072 ≡ accepted line
-  read-written-back none status within =
+  writes none status within =
       let r = received line (length s) (length t) bodies e in
       let w = write-back line bodies (r .octets) octets (r .read) in
       let level = digit (levelBefore line) in
@@ -113,6 +110,16 @@ module _ (line bodies : List ℕ) (octets : Below 256 line) (s : List ℤ) (t : 
       (m .0 & m .1 .0 & eq-eqb 3072 3072 refl & lt-ltb level 2 (digit-lt (levelBefore line)) & m .1 .1)
       ∙ ap accepted (block-line (samplesOf bodies) (sideOf bodies) level
       ∙ rw (odd-digit (levelBefore line), bodies-back bodies (w .many) (even-read bodies (w .many) (w .bodies) empty)) (w .line))
+
+  -- writing it back, at the level that the reader took, into 3,072 octets is accepted and gives that line if E is empty,
+  -- both status blocks pass 4, 5 and 6, and no sample has a 1 below the length that its channel's status declares
+  pub read-written-back : Faultless side-read → statusChecked side-read ≡ accepted tt
+      → ((i : ℕ) → i < 384 → overlong samples-read side-read i ≡ false) → (old : List ℕ) → length old ≡ 3072
+      → (verdict (writeAnswer samples-read side-read (digit (levelBefore line)) (length old)) ≡ accepted tt)
+      × (rewritten (writeAnswer samples-read side-read (digit (levelBefore line)) (length old)) old ≡ line)
+  read-written-back none status within old h =
+      let w = ap (writeAnswer samples-read side-read (digit (levelBefore line))) h ∙ writes none status within in
+      (ap verdict w, ap (λ a. rewritten a old) w ∙ whole (λ new. new) line old (received line (length s) (length t) bodies e .octets ∙ sym h))
 
 -- ---- inverting every symbol
 
