@@ -129,7 +129,7 @@ promises:
 
 # The second program under the library's names, for its own tests and for what is made from it.
 build/stand_in.o: $(SECOND) tests/second/second.h
-	@mkdir -p build/stand_in
+	@rm -rf build/stand_in && mkdir -p build/stand_in
 	for f in $(SECOND) tests/second/second.h; do sed 's/second_/lampcoil_/g' $$f >build/stand_in/$${f##*/}; done
 	for f in $(SECOND); do $(CC) -std=c11 -O2 -c -o build/stand_in/$${f##*/}.o build/stand_in/$${f##*/} || exit 1; done
 	ld -r -o $@ build/stand_in/*.o
@@ -138,7 +138,7 @@ build/stand_in.o: $(SECOND) tests/second/second.h
 # which takes seconds at the end of every program.
 WATCHED = ASAN_OPTIONS=detect_leaks=0
 build/watched.o: build/stand_in.o
-	@mkdir -p build/watched
+	@rm -rf build/watched && mkdir -p build/watched
 	CC="$(CC)" tests/sanitise >build/sanitise
 	for f in build/stand_in/*.c; do $(CC) -std=c11 -O2 $$(cat build/sanitise) -c -o build/watched/$${f##*/}.o $$f || exit 1; done
 	ld -r -o $@ build/watched/*.o
