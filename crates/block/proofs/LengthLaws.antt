@@ -8,7 +8,7 @@ use Prim.Native.Nat.{ℕ, _+_, _-_, _*_, _/_, _%_, _^_, _≤_, _<_}
 use native.Mathlib.Nat.{div-one, one-mul, zero-mul, zero-div}
 use native.Mathlib.Omega.{arith}
 use borrow.Author.Tests.{ne-eqb}
-use lib.Bits.{bitAnd, bitOr, and-zero-r, and-le-l, and-le-r, or-add-and, and-high}
+use lib.Bits.{bitAnd, and-zero-r, and-high}
 use lib.Dec.{eqb}
 use lib.IntN.{ℤ, pos}
 use lib.ListN.{getD}
@@ -25,6 +25,8 @@ use Rattle.status.specs.declared.WordLength.the-variants as word
 use Rattle.status.specs.declared.Audio.the-variants.{LinearPcm, OtherPurpose}
 use Rattle.status.specs.declared.Use.{Use}
 use Rattle.status.specs.declared.Use.the-variants.{Consumer, Professional}
+use Rattle.status.specs.Meaning.{meaningOf}
+use Rattle.status.proofs.Lengths.{undeclared}
 use Rattle.block.specs.Length.{oneBelow, busyWith, busyUnder}
 use Rattle.block.specs.Check.{meaningIn, overlong}
 use Rattle.block.specs.Inner.{maskBelow, maskWith, maskUnder, masked}
@@ -58,6 +60,31 @@ under (Professional (OtherPurpose d)) x = rw (and-zero-r x)
 
 -- ---- as code computes the mask
 
+not-indicated : (a : Auxiliary) → maskWith a word.NotIndicated ≡ 0
+unfolding maskWith maskBelow
+not-indicated auxiliary.MainAudio = refl
+not-indicated auxiliary.NotDefined = refl
+not-indicated auxiliary.Coordination = refl
+not-indicated auxiliary.UserDefined = refl
+not-indicated (auxiliary.Reserved y) = refl
+
+reserved : (a : Auxiliary) (x : ℕ) → maskWith a (word.Reserved x) ≡ 0
+unfolding maskWith maskBelow
+reserved auxiliary.MainAudio x = refl
+reserved auxiliary.NotDefined x = refl
+reserved auxiliary.Coordination x = refl
+reserved auxiliary.UserDefined x = refl
+reserved (auxiliary.Reserved y) x = refl
+
+-- where byte 2 declares no length the mask is empty
+pub mask-undeclared : (byte0 byte1 byte2 : ℕ) → byte2 / 8 % 8 ≡ 0 → maskUnder (meaningOf byte0 byte1 byte2) ≡ 0
+unfolding maskUnder
+mask-undeclared byte0 byte1 byte2 e =
+    undeclared (λ (u : Use). maskUnder u ≡ 0) refl
+    (λ d h. ⊎-elim (λ (n : d .«word_length» ≡ word.NotIndicated). ap (maskWith (d .auxiliary)) n ∙ not-indicated (d .auxiliary))
+    (λ (r : d .«word_length» ≡ word.Reserved 0). ap (maskWith (d .auxiliary)) r ∙ reserved (d .auxiliary) 0) h)
+    (λ d. refl) byte0 byte1 byte2 e
+
 pub one-shifted : (k : ℕ) → k < 32 → 1 * 2 ^ k % 2 ^ 32 ≡ 2 ^ k
 one-shifted k h = shl-exact 1 k 32 (omega arith) (omega arith) ∙ one-mul (2 ^ k)
 
@@ -78,15 +105,6 @@ module _ (samples : List ℤ) (a b i : ℕ) where
   pub masked-at : masked samples a b i ≡ not (eqb (bitAnd code (pick (eqb (i % 2) 0) a b)) 0)
   unfolding masked
   masked-at = refl
-
-  -- empty masks find nothing
-  pub masked-none : bitOr a b ≡ 0 → masked samples a b i ≡ false
-  unfolding masked
-  masked-none e =
-      let x : a ≡ 0 = omega (arith, or-add-and a b, and-le-r a b) in
-      let y : b ≡ 0 = omega (arith, or-add-and a b, and-le-l a b) in
-      digit-cases (λ (k : ℕ). not (eqb (bitAnd code (pick (eqb k 0) a b)) 0) ≡ false) (rw (x, and-zero-r code)) (rw (y, and-zero-r code))
-      (i % 2) (omega arith)
 
 -- a sample is longer than its status declares exactly if the mask of its channel finds it
 pub overlong-masked : (samples : List ℤ) (side : List ℕ) (i : ℕ)

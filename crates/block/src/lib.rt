@@ -2,7 +2,7 @@
 // of them.
 ghost use mathlib.Core.Path.{_≡_};
 ghost use mathlib.Core.Bool.{true, not};
-ghost use Prim.Native.Nat.{_+_, _*_, _%_, _<_};
+ghost use Prim.Native.Nat.{_+_, _*_, _%_, _^_, _<_};
 ghost use lib.Bits.{bitAnd};
 ghost use lib.Dec.{eqb};
 ghost use lib.ListN.{length, getD};
@@ -15,7 +15,7 @@ ghost use Rattle.subframe.specs.Signed.{inRange, codeOf};
 ghost use Rattle.block.specs.Side.{columnBits, columns, columnLength, sideLength};
 ghost use Rattle.block.specs.Block.{samplesOf, sideOf, blockFilled};
 ghost use Rattle.block.specs.Check.{statusOf, statusRight, faulty, outside, consumer, wrong, someValid, unmarked, meaningIn, overlong, statusChecked, checked};
-ghost use Rattle.block.specs.Inner.{digitsOf, apartTable, gathered, laid, channelSide, faultsOf, someFault, maskUnder, AllInRange, masked};
+ghost use Rattle.block.specs.Inner.{digitsOf, apartTable, gathered, laid, channelSide, faultsOf, someFault, maskUnder, AllInRange, masked, Lifts, Gathers};
 
 mod length;
 mod tables;
@@ -229,38 +229,39 @@ fn first_fault(side: &[u8]) -> usize
     i
 }
 
-// 1 for a sample that is out of range, else 0.
-fn out_of_range(sample: i32) -> u32
-    ensures { λ r. ⌜ r ≡ digit (not (inRange 24 sample)) ⌝ }
+// A sample moved up by 2^23, in 32 bits: below 2^24 exactly if the sample is in range, and its lowest 23 bits stay.
+fn lifted(sample: i32) -> u32
+    ensures { λ r. ⌜ Lifts sample r ⌝ }
 {
-    if subframe::in_range(sample) {
-        return 0;
-    }
-    1
+    let moved = (sample as i64 + 0x1_0080_0000) as u64;
+    (moved % 0x1_0000_0000) as u32
 }
 
-// How many samples are out of range. Counting all needs no branch on a sample, and is quicker than a search that finds
-// none.
-fn outside_count(samples: &[i32]) -> u32
+// The bits that are 1 in some lifted sample, those of A below those of B: one pass for range and word lengths, with no
+// branch on a sample. A pair makes one number of 64 bits, so that several are taken at once, as they lie in memory.
+fn gather(samples: &[i32]) -> u64
     requires { ⌜ length (now samples) ≡ 384 ⌝ }
-    ensures { λ r. ⌜ r ≡ count (listed 0 384 (outside (now (samples .entry)))) ⌝ }
+    ensures { λ r. ⌜ Gathers (now (samples .entry)) 192 r ⌝ }
 {
-    let mut n: u32 = 0;
-    let mut i: usize = 0;
-    while i < 384 {
-        let x = samples[i];
-        n += out_of_range(x);
-        i += 1;
+    let mut sum: u64 = 0;
+    let mut k: usize = 0;
+    while k < 192 {
+        let x = samples[2 * k];
+        let y = samples[2 * k + 1];
+        let low = lifted(x) as u64;
+        let high = lifted(y) as u64;
+        sum = sum | (high * 0x1_0000_0000 + low);
+        k += 1;
     }
-    n
+    sum
 }
 
-// The first sample that is out of range, or 384.
-fn first_outside(samples: &[i32]) -> usize
-    requires { ⌜ length (now samples) ≡ 384 ⌝ }
+// The first sample that is out of range, or 384: searched only where something was gathered from 2^24 on.
+fn first_outside(samples: &[i32], all: u64) -> usize
+    requires { ⌜ (length (now samples) ≡ 384) × Gathers (now samples) 192 all ⌝ }
     ensures { λ r. ⌜ r ≡ first (outside (now (samples .entry))) 0 384 (λ i. i) 384 ⌝ }
 {
-    if outside_count(samples) == 0 {
+    if all & 0xFF00_0000_FF00_0000 == 0 {
         return 384;
     }
     let mut i: usize = 0;
@@ -381,23 +382,6 @@ fn bits_in(sample: i32, mask: u32) -> u32
     ((sample + 16777216) as u32) % 16777216 & mask
 }
 
-// Whether no sample has a 1 in its channel's mask: one pass over several at once, which does not say where one has.
-fn none_masked(samples: &[i32], a: u32, b: u32) -> bool
-    requires { ⌜ (length (now samples) ≡ 384) × AllInRange (now samples) ⌝ }
-    ensures { λ r. ⌜ (r ≡ true → first (masked (now (samples .entry)) a b) 0 384 (λ i. i) 384 ≡ 384) ⌝ }
-{
-    let mut sum: u32 = 0;
-    let mut i: usize = 0;
-    while i < 384 {
-        let x = samples[i];
-        let y = samples[i + 1];
-        sum = sum | bits_in(x, a);
-        sum = sum | bits_in(y, b);
-        i += 2;
-    }
-    sum == 0
-}
-
 // The mask of the channel that sample i belongs to.
 fn mask_at(a: u32, b: u32, i: usize) -> u32
     ensures { λ r. ⌜ r ≡ pick (eqb (i % 2) 0) a b ⌝ }
@@ -408,15 +392,23 @@ fn mask_at(a: u32, b: u32, i: usize) -> u32
     b
 }
 
-// The first sample that has a 1 in its channel's mask, or 384; nothing is looked at where both masks are empty.
-fn first_masked(samples: &[i32], a: u32, b: u32) -> usize
-    requires { ⌜ (length (now samples) ≡ 384) × AllInRange (now samples) ⌝ }
+// Whether two masks, A's and B's, have nothing of what was gathered; false too where a mask goes beyond the 23 bits that
+// lifting leaves.
+fn none_gathered(all: u64, a: u32, b: u32) -> bool
+    ensures { λ r. ⌜ (r ≡ true → (a < 2 ^ 23) × (b < 2 ^ 23) × (bitAnd all (b * 2 ^ 32 + a) ≡ 0)) ⌝ }
+{
+    if 0x80_0000 <= (a | b) {
+        return false;
+    }
+    all & (b as u64 * 0x1_0000_0000 + a as u64) == 0
+}
+
+// The first sample that has a 1 in its channel's mask, or 384: searched only where something was gathered there.
+fn first_masked(samples: &[i32], all: u64, a: u32, b: u32) -> usize
+    requires { ⌜ (length (now samples) ≡ 384) × AllInRange (now samples) × Gathers (now samples) 192 all ⌝ }
     ensures { λ r. ⌜ r ≡ first (masked (now (samples .entry)) a b) 0 384 (λ i. i) 384 ⌝ }
 {
-    if (a | b) == 0 {
-        return 384;
-    }
-    if none_masked(samples, a, b) {
+    if none_gathered(all, a, b) {
         return 384;
     }
     let mut i: usize = 0;
@@ -442,13 +434,13 @@ fn mask_under(side: &[u8], channel: usize) -> u32
 }
 
 // The first sample with a 1 below the length that its channel's status declares, or 384.
-fn first_overlong(samples: &[i32], side: &[u8]) -> usize
-    requires { ⌜ (length (now samples) ≡ 384) × (length (now side) ≡ sideLength) × AllInRange (now samples) ⌝ }
+fn first_overlong(samples: &[i32], all: u64, side: &[u8]) -> usize
+    requires { ⌜ (length (now samples) ≡ 384) × (length (now side) ≡ sideLength) × AllInRange (now samples) × Gathers (now samples) 192 all ⌝ }
     ensures { λ r. ⌜ r ≡ first (overlong (now (samples .entry)) (now (side .entry))) 0 384 (λ i. i) 384 ⌝ }
 {
     let a = mask_under(side, 0);
     let b = mask_under(side, 1);
-    first_masked(samples, a, b)
+    first_masked(samples, all, a, b)
 }
 
 // Refusals 1, 20, 3, 4, 5, 6 and 18 of a block.
@@ -468,7 +460,8 @@ pub fn check_block(samples: &[i32], side: &[u8]) -> Verdict
         };
     }
     let f = first_fault(side);
-    let i = first_outside(samples);
+    let all = gather(samples);
+    let i = first_outside(samples, all);
     if f < 384 {
         return Verdict::Refused {
             number: 20,
@@ -485,7 +478,7 @@ pub fn check_block(samples: &[i32], side: &[u8]) -> Verdict
     if let Verdict::Refused { number, place } = status {
         return Verdict::Refused { number, place };
     }
-    let k = first_overlong(samples, side);
+    let k = first_overlong(samples, all, side);
     if k < 384 {
         return Verdict::Refused {
             number: 18,

@@ -4,6 +4,7 @@ use mathlib.Core.Path.{_≡_, sym, ap, _∙_}
 use mathlib.Core.Bool.{false}
 use mathlib.Core.List.{List, _++_}
 use Prim.Native.Nat.{ℕ, _+_, _≤_, _<_}
+use native.Mathlib.Omega.{arith}
 use borrow.Author.Needs.{needs}
 use borrow.Author.Tests.{eq-eqb, ne-eqb}
 use lib.IntN.{ℤ}
@@ -27,7 +28,7 @@ status-stops t number place e = stops tt (statusDemands t) number place e
 -- lengths are right, no E is set, ranges are right
 module _ (c : tie.Else4) where
   abbrev start : tie.Start
-  start = c .before .before .before .before .before .before .before
+  start = c .before .before .before .before .before .before .before .before
 
   abbrev samples : List ℤ
   samples = start .args .samples .now
@@ -36,13 +37,13 @@ module _ (c : tie.Else4) where
   side = start .args .side .now
 
   ns : length samples ≡ 384
-  ns = c .before .before .before .before .before .if1 .left
+  ns = c .before .before .before .before .before .before .if1 .left
 
   nt : length side ≡ sideLength
-  nt = c .before .before .before .before .if2 .left
+  nt = c .before .before .before .before .before .if2 .left
 
   clear : (i : ℕ) → 0 ≤ i → i < 0 + 384 → faulty side i ≡ false
-  clear = let f = c .before .before .before in none-found (faulty side) 384 (f .first-fault .result) (f .first-fault .ensures) (c .before .if3 .left)
+  clear = let f = c .before .before .before .before in none-found (faulty side) 384 (f .first-fault .result) (f .first-fault .ensures) (c .before .if3 .left)
 
   none : (i : ℕ) → 0 ≤ i → i < 0 + 384 → outside samples i ≡ false
   none = let o = c .before .before in none-found (outside samples) 384 (o .first-outside .result) (o .first-outside .ensures) (c .if4 .left)
@@ -70,29 +71,32 @@ returns-2 c = sym (stopped (accepted tt) (later (eq-eqb _ 384 (c .before .if1 .l
 first-fault-requires : tie.Need-first-fault-requires
 first-fault-requires c κs = search needs
 
-first-outside-requires : tie.Need-first-outside-requires
-first-outside-requires c κs = search needs
+gather-requires : tie.Need-gather-requires
+gather-requires c κs = search needs
 
-cast-t11 : tie.Need-cast-t11
-cast-t11 c = search needs
+first-outside-requires : tie.Need-first-outside-requires
+first-outside-requires c κs = (omega arith, c .gather .ensures)
+
+cast-t12 : tie.Need-cast-t12
+cast-t12 c = search needs
 
 returns-3 : tie.Need-returns-3
 unfolding checked
 returns-3 c =
-    let f = c .before .before in
+    let f = c .before .before .before in
     let e = f .before in
     let s = e .before .before .before in
     sym (stopped (accepted tt) (later (eq-eqb _ 384 (e .before .if1 .left)) (later (eq-eqb _ sideLength (e .if2 .left))
     (place-found (faulty (s .args .side .now)) 384 (f .first-fault .result) (f .first-fault .ensures) (c .if3 .taken)))))
 
-cast-t12 : tie.Need-cast-t12
-cast-t12 c = search needs
+cast-t13 : tie.Need-cast-t13
+cast-t13 c = search needs
 
 returns-4 : tie.Need-returns-4
 unfolding checked
 returns-4 c =
     let o = c .before .before in
-    let f = o .before in
+    let f = o .before .before in
     let e = f .before in
     let s = e .before .before .before in
     sym (stopped (accepted tt) (later (eq-eqb _ 384 (e .before .if1 .left)) (later (eq-eqb _ sideLength (e .if2 .left))
@@ -119,10 +123,10 @@ enum-told c = search needs
 first-overlong-requires : tie.Need-first-overlong-requires
 first-overlong-requires c κs =
     let p = c .before .before .before in
-    (ns p, nt p, λ i h. in-range (samples p) (ns p) (none p) i)
+    (ns p, nt p, λ i h. in-range (samples p) (ns p) (none p) i, p .before .before .before .gather .ensures)
 
-cast-t13 : tie.Need-cast-t13
-cast-t13 c = search needs
+cast-t14 : tie.Need-cast-t14
+cast-t14 c = search needs
 
 returns-6 : tie.Need-returns-6
 returns-6 c =
@@ -150,16 +154,17 @@ check-block-spec =
     returns
     returns-2
     first-fault-requires
+    gather-requires
     first-outside-requires
-    cast-t11
-    returns-3
     cast-t12
+    returns-3
+    cast-t13
     returns-4
     check-status-requires
     enum-known-status
     returns-5
     enum-told
     first-overlong-requires
-    cast-t13
+    cast-t14
     returns-6
     returns-7)

@@ -1,5 +1,5 @@
--- `block::first_masked` meets its contract: empty masks find nothing, and where the pass gathered nothing there is
--- nothing; else from here on the first is the first of all. Assumes nothing.
+-- `block::first_masked` meets its contract: where nothing was gathered under the masks there is nothing; else from here
+-- on the first is the first of all. Assumes nothing.
 use mathlib.Core.Path.{_≡_, sym, ap, _∙_}
 use mathlib.Core.Bool.{Bool, not}
 use mathlib.Core.List.{List}
@@ -15,19 +15,20 @@ use mir.Facts.{toZ-ofZ}
 use Rattle.bits.proofs.Places.{first-none}
 use Rattle.bits.proofs.Searches.{Left, left-first, left-next, left-hit, left-miss}
 use Rattle.block.specs.Inner.{masked}
-use Rattle.block.proofs.LengthLaws.{masked-at, masked-none}
+use Rattle.block.proofs.LengthLaws.{masked-at}
+use Rattle.block.proofs.Lifting.{none-masked}
 use Rattle.block.proofs.first_masked.Statement.{statement}
 use Rattle.block.proofs.first_masked.Tie as tie
 
 abbrev Inv-loop : tie.InvT-loop
-Inv-loop samples a b i₀ i = Left (masked samples a b) 384 i
+Inv-loop samples all a b i₀ i = Left (masked samples a b) 384 i
 
 abbrev μ-loop : tie.MeasureT-loop
-μ-loop samples a b i₀ i = 384 - i
+μ-loop samples all a b i₀ i = 384 - i
 
 module _ (c : tie.At-loop Inv-loop μ-loop) where
   abbrev start : tie.Start Inv-loop μ-loop
-  start = c .before .before .before .before
+  start = c .before .before .before
 
   abbrev found : ℕ → Bool
   found = masked (start .args .samples .now) (start .args .a) (start .args .b)
@@ -47,20 +48,20 @@ module _ (c : tie.After-bits-in Inv-loop μ-loop) where
       ∙ sym (ap (λ (n : ℕ). not (eqb n 0))
       (rw (toZ-ofZ {w = w32} (sfits-of (c .before .before .x .given)), c .before .mask-at .ensures) at (c .bits-in .ensures)))
 
+none-gathered-requires : tie.Need-none-gathered-requires Inv-loop μ-loop
+none-gathered-requires c κs = search needs
+
 returns : tie.Need-returns Inv-loop μ-loop
 returns c =
-    let a = c .before .args in
-    sym (first-none (masked (a .samples .now) (a .a) (a .b)) (λ k. k) 384 0 384 (λ k h. masked-none (a .samples .now) (a .a) (a .b) k (c .if1 .taken)))
-
-none-masked-requires : tie.Need-none-masked-requires Inv-loop μ-loop
-none-masked-requires c κs = c .before .pre
-
-returns-2 : tie.Need-returns-2 Inv-loop μ-loop
-returns-2 c = sym (c .before .none-masked .ensures (c .if2 .taken))
+    let s = c .before .before in
+    let a = s .args in
+    let e = c .before .none-gathered .ensures (c .if1 .taken) in
+    sym (first-none (masked (a .samples .now) (a .a) (a .b)) (λ k. k) 384 0 384
+    (λ k h. none-masked (a .samples .now) (a .all) (a .a) (a .b) (s .pre .1) (s .pre .2) (e .0) (e .1) (e .2) k (omega arith)))
 
 loop-holds : tie.Need-loop-holds Inv-loop μ-loop
 loop-holds c =
-    let a = c .before .before .before .args in
+    let a = c .before .before .args in
     left-first (masked (a .samples .now) (a .a) (a .b)) 384
 
 mul-x : tie.Need-mul-x Inv-loop μ-loop
@@ -77,10 +78,10 @@ bits-in-requires c κs =
     let p = c .before .before .before in
     rw (toZ-ofZ {w = w32} (sfits-of (c .before .x .given))) (start p .pre .1 (i p) (omega arith))
 
-returns-3 : tie.Need-returns-3 Inv-loop μ-loop
-returns-3 c =
+returns-2 : tie.Need-returns-2 Inv-loop μ-loop
+returns-2 c =
     let p = here (c .before) in
-    left-hit (found p) 384 (i p) (omega arith) (tells (c .before) ∙ ap not (ne-eqb _ 0 (c .if3 .taken))) (p .loop .inv)
+    left-hit (found p) 384 (i p) (omega arith) (tells (c .before) ∙ ap not (ne-eqb _ 0 (c .if2 .taken))) (p .loop .inv)
 
 add-i : tie.Need-add-i Inv-loop μ-loop
 add-i c = omega arith
@@ -91,10 +92,10 @@ loop-less c = omega arith
 loop-again : tie.Need-loop-again Inv-loop μ-loop
 loop-again c =
     let p = here (c .before) in
-    left-next (found p) 384 (i p) (omega arith) (tells (c .before) ∙ ap not (eq-eqb _ 0 (c .if3 .left))) (p .loop .inv)
+    left-next (found p) 384 (i p) (omega arith) (tells (c .before) ∙ ap not (eq-eqb _ 0 (c .if2 .left))) (p .loop .inv)
 
-returns-4 : tie.Need-returns-4 Inv-loop μ-loop
-returns-4 c =
+returns-3 : tie.Need-returns-3 Inv-loop μ-loop
+returns-3 c =
     let p = c .before in
     left-miss (found p) 384 (i p) (c .loop-test .left) (p .loop .inv)
 
@@ -104,16 +105,15 @@ first-masked-spec =
     (tie.spec
     Inv-loop
     μ-loop
+    none-gathered-requires
     returns
-    none-masked-requires
-    returns-2
     loop-holds
     mul-x
     shared-slice-copy-out-x
     mask-at-requires
     bits-in-requires
-    returns-3
+    returns-2
     add-i
     loop-less
     loop-again
-    returns-4)
+    returns-3)

@@ -1,4 +1,4 @@
--- `block::first_outside` meets its contract: where nothing was counted nothing is found; else from here on the first is
+-- `block::first_outside` meets its contract: where nothing was gathered from 2 ^ 24 on nothing is found; else from here on the first is
 -- the first of all. Assumes nothing.
 use mathlib.Core.Path.{_≡_, refl, sym, ap, _∙_}
 use mathlib.Core.Bool.{not}
@@ -11,21 +11,22 @@ use mir.Syntax.{w32}
 use mir.Facts.{toZ-ofZ}
 use Rattle.bits.specs.Pick.{first}
 use Rattle.bits.proofs.Firsts.{first-hit, first-next, first-miss}
+use Rattle.bits.proofs.Places.{first-none}
 use Rattle.block.specs.Check.{outside}
-use Rattle.block.proofs.CheckLaws.{count-none}
+use Rattle.block.proofs.Lifting.{none-outside}
 use Rattle.block.proofs.first_outside.Statement.{statement}
 use Rattle.block.proofs.first_outside.Tie as tie
 
 abbrev Inv-loop : tie.InvT-loop
-Inv-loop samples i₀ i =
+Inv-loop samples all i₀ i =
     (i ≤ 384) × (first (outside samples) i (384 - i) (λ k. k) 384 ≡ first (outside samples) 0 384 (λ k. k) 384)
 
 abbrev μ-loop : tie.MeasureT-loop
-μ-loop samples i₀ i = 384 - i
+μ-loop samples all i₀ i = 384 - i
 
 module _ (c : tie.At-loop Inv-loop μ-loop) where
   abbrev samples : List ℤ
-  samples = c .before .before .before .args .samples .now
+  samples = c .before .before .args .samples .now
 
   abbrev i : ℕ
   i = c .loop .i
@@ -39,14 +40,12 @@ module _ (c : tie.After-in-range Inv-loop μ-loop) where
   unfolding outside
   tells = ap not (sym (rw (toZ-ofZ {w = w32} (sfits-of (c .before .x .given))) at (c .in-range .ensures)))
 
-outside-count-requires : tie.Need-outside-count-requires Inv-loop μ-loop
-outside-count-requires c κs = c .pre
-
 returns : tie.Need-returns Inv-loop μ-loop
 returns c =
-    let counted = c .before in
-    let samples = counted .before .args .samples .now in
-    sym (count-none (outside samples) (λ k. k) 384 0 384 (sym (counted .outside-count .ensures) ∙ c .if1 .taken))
+    let s = c .before in
+    let samples = s .args .samples .now in
+    sym (first-none (outside samples) (λ k. k) 384 0 384
+    (λ k h. none-outside samples (s .args .all) (s .pre .1) (c .if1 .taken) k (omega arith)))
 
 loop-holds : tie.Need-loop-holds Inv-loop μ-loop
 loop-holds c = (omega arith, refl)
@@ -92,7 +91,6 @@ first-outside-spec =
     (tie.spec
     Inv-loop
     μ-loop
-    outside-count-requires
     returns
     loop-holds
     mul-x

@@ -24,7 +24,7 @@ mask-under-requires-2 c κs = search needs
 first-masked-requires : tie.Need-first-masked-requires
 first-masked-requires c κs =
     let s = c .before .before .before in
-    (s .pre .0, s .pre .2)
+    (s .pre .0, s .pre .2, s .pre .3)
 
 returns : tie.Need-returns
 returns c =
