@@ -1,5 +1,5 @@
 -- The preamble that is due, and a subframe behind it. Assumes nothing.
-use mathlib.Core.Path.{_≡_, sym, ap, _∙_}
+use mathlib.Core.Path.{_≡_, refl, sym, ap, _∙_}
 use mathlib.Core.Bool.{Bool, true, false, not}
 use mathlib.Core.List.{_++_, append-assoc, map}
 use Prim.Native.Nat.{ℕ, _/_, _%_, _^_, _<_}
@@ -53,6 +53,10 @@ unfolding preamble
 preamble-not i l = after-not l (due i)
 
 -- X opens an even subframe that is not the first, Y an odd one
+pub due-first : 0b11101000 ≡ big (due 0)
+unfolding due bigBits big
+due-first = refl
+
 pub due-even : (i : ℕ) → 0 < i → i % 2 ≡ 0 → 0b11100010 ≡ big (due i)
 unfolding due bigBits big
 due-even i h e = rw (ne-eqb i 0 (λ z. omega arith), e)

@@ -3,16 +3,16 @@ ghost use mathlib.Core.Path.{_≡_};
 ghost use mathlib.Core.Bool.{false};
 ghost use Prim.Native.Nat.{_<_};
 ghost use lib.ListN.{length};
-ghost use Rattle.bits.specs.Row.{odd, digit, bigBits, little};
+ghost use Rattle.bits.specs.Row.{odd, digit, bigBits, little, big};
 ghost use Rattle.answer.specs.Answer.{mapped, verdict, after};
 ghost use Rattle.answer.specs.Said.{verdictSaid, numberSaid};
 ghost use Rattle.line.specs.Biphase.{held};
 ghost use Rattle.block.specs.Block.{samplesOf, sideOf};
 ghost use Rattle.block.specs.Check.{statusRight};
-ghost use Rattle.aes3_line.specs.Subframe.{subframeRead};
+ghost use Rattle.aes3_line.specs.Subframe.{due, subframeRead};
 ghost use Rattle.aes3_line.specs.Line.{bodiesOn};
 ghost use Rattle.aes3_read.specs.Reader.{readAnswer, crccs, blockSaid};
-ghost use Rattle.aes3_read.specs.Inner.{heldTable, decoded};
+ghost use Rattle.aes3_read.specs.Inner.{heldTable, decoded, dueChanges};
 
 mod tables;
 
@@ -50,11 +50,29 @@ fn read_slots(table: &[u8], w: u64) -> u32
     a + b * 16 + c * 256 + d * 4096 + e * 65536 + f * 1048576 + g * 16777216
 }
 
-// 64 symbols read as subframe i after level 0: its body, even or odd.
+// The changes of level that open subframe i, of its preamble all and of each slot the one at its first symbol.
+fn due_changes(i: usize) -> u64
+    ensures { λ r. ⌜ r ≡ dueChanges (big (due i)) ⌝ }
+{
+    if i == 0 {
+        return 0x9CAA_AAAA_AAAA_AAAA;
+    }
+    if i % 2 == 1 {
+        return 0x96AA_AAAA_AAAA_AAAA;
+    }
+    0x93AA_AAAA_AAAA_AAAA
+}
+
+// 64 symbols read as subframe i after level 0: its body, even or odd. Preamble and slots are judged by one test; which of
+// them is wrong is looked for only after it.
 fn read_word(table: &[u8], i: usize, w: u64) -> NumberAnswer
     requires { ⌜ (now table ≡ heldTable) × (i < 384) ⌝ }
     ensures { λ r. ⌜ numberSaid r ≡ subframeRead i false (bigBits 64 w) ⌝ }
 {
+    if (w ^ (w / 2)) & 0xFFAA_AAAA_AAAA_AAAA == due_changes(i) {
+        return NumberAnswer::Number(read_slots(table, w) * 16);
+    }
+    // the two tests one by one
     if w / 0x100_0000_0000_0000 != aes3_line::due_octet(i) as u64 {
         return NumberAnswer::Refused {
             number: 7,
