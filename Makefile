@@ -26,9 +26,9 @@ PREFIX = /usr/local
 DESTDIR =
 RECORDS = examples/desk.rec
 
-# Crates and edits that are tried at a time: more than a small machine has processors, since each batch waits for its
-# slowest.
-JOBS = 8
+# Crates and edits that are tried at a time: twice the processors of a small machine, since each batch waits for its
+# slowest; with more they hinder each other (docs/FIGURES.md).
+JOBS = 4
 
 CC = cc
 CFLAGS = -std=c11 -O2 -Wall -Wextra -Werror -pedantic
