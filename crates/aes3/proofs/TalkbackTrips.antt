@@ -11,14 +11,14 @@ use Rattle.block.specs.Side.{sideLength}
 use Rattle.block.specs.Block.{samplesOf, sideOf}
 use Rattle.aes3_write.specs.Writer.{writeAnswer}
 use Rattle.aes3_read.specs.Reader.{readAnswer}
-use Rattle.talkback.specs.Talkback.{programOf, voiceOf, joinAnswer, separateAnswer}
+use Rattle.talkback.specs.Talkback.{programOf, voiceOf, voiceJoinAnswer, separateAnswer}
 use Rattle.talkback.proofs.Trips.{joined-separates}
 use Rattle.aes3.proofs.BlockTrips.{written-read-back}
 
 module _ (program voice : List ℤ) (side : List ℕ) (octets : Below 256 side) (old : List ℤ) (level : ℕ) (room : List ℕ) where
   -- what the samples hold after joining, and the line after writing them
   abbrev joined : List ℤ
-  joined = rewritten (joinAnswer program voice side (length old)) old
+  joined = rewritten (voiceJoinAnswer program voice side (length old)) old
 
   abbrev written : List ℕ
   written = rewritten (writeAnswer joined side level (length room)) room
@@ -31,7 +31,7 @@ module _ (program voice : List ℤ) (side : List ℕ) (octets : Below 256 side) 
     abbrev side-read : List ℕ
     side-read = after sideOf (readAnswer written (length s) (length t)) t
 
-    pub talkback-comes-back : (samples : List ℤ) (line : List ℕ) → joinAnswer program voice side (length old) ≡ accepted samples
+    pub talkback-comes-back : (samples : List ℤ) (line : List ℕ) → voiceJoinAnswer program voice side (length old) ≡ accepted samples
         → writeAnswer joined side level (length room) ≡ accepted line → length s ≡ 384 → length t ≡ sideLength
         → (p v : List ℤ) → length p ≡ 384 → length v ≡ 128
         → (verdict (separateAnswer samples-read side-read (length p) (length v)) ≡ accepted tt)

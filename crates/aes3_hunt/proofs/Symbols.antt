@@ -18,7 +18,7 @@ use Rattle.bits.proofs.Packing.{octet-window}
 use Rattle.line.specs.Preamble.{preambleY, preambleZ, afterLevel}
 use Rattle.line.proofs.PreambleLaws.{after-0, after-1, length-after}
 use Rattle.aes3_hunt.specs.Hunt.{same, opens, fits, standing, required, differs}
-use Rattle.aes3_hunt.specs.Inner.{differences}
+use Rattle.aes3_hunt.specs.Inner.{mismatches}
 use Rattle.aes3_hunt.proofs.SameLaws.{same-append}
 
 -- ---- nine symbols of a line of octets, from two octets
@@ -94,8 +94,8 @@ module _ (r : Row) (p : ℕ) where
 
   -- the code's number, from the two times nine symbols
   pub differing : {z y : ℕ} → 1 ≤ p → z ≡ window r (p - 1) 9 → y ≡ window r (p + 63) 9
-      → bitXor (z % 256 * 256 + y % 256) (bitXor 0xE8E4 (z / 256 * 0xFF00 + y / 256 * 0xFF)) ≡ differences r p
-  unfolding differences required
+      → bitXor (z % 256 * 256 + y % 256) (bitXor 0xE8E4 (z / 256 * 0xFF00 + y / 256 * 0xFF)) ≡ mismatches r p
+  unfolding mismatches required
   differing {z} {y} h e f =
       let here : p - 1 + 1 ≡ p = omega arith in
       let there : p + 63 + 1 ≡ p + 64 = omega arith in
@@ -104,8 +104,8 @@ module _ (r : Row) (p : ℕ) where
       ∙ sym (big-xor (standing r p) (required r p) (length-standing r p ∙ sym (length-required r p))))
 
   -- its digits: the first of the sixteen highest
-  pub differs-at : (k : ℕ) → k < 16 → differences r p / 2 ^ (15 - k) % 2 ≡ digit (differs r p k)
-  unfolding differences differs
+  pub differs-at : (k : ℕ) → k < 16 → mismatches r p / 2 ^ (15 - k) % 2 ≡ digit (differs r p k)
+  unfolding mismatches differs
   differs-at k h =
       let row = xorRow (standing r p) (required r p) in
       let n : length row ≡ 16 = length-xor (standing r p) (required r p) (length-standing r p ∙ sym (length-required r p)) ∙ length-required r p in
@@ -116,7 +116,7 @@ module _ (r : Row) (p : ℕ) where
       sym (ap digit (sym (getD-xor (standing r p) (required r p) k) ∙ bit) ∙ digit-odd (big row / 2 ^ (15 - k)))
 
   -- what the code's test of one digit says
-  module _ {d : ℕ} (k : ℕ) (h : k < 16) (e : d ≡ differences r p) where
+  module _ {d : ℕ} (k : ℕ) (h : k < 16) (e : d ≡ mismatches r p) where
     pub seen-differing : d / 2 ^ (15 - k) % 2 ≡ 1 → differs r p k ≡ true
     seen-differing t = go (differs r p k) (sym (rw e at t) ∙ differs-at k h)
       where

@@ -4,5 +4,5 @@ use Rattle.bits.specs.Row.{Row, big, xorRow}
 use Rattle.aes3_hunt.specs.Hunt.{standing, required}
 
 -- 1 where a symbol differs from the one required, the first of the sixteen highest
-unfoldable pub differences : Row → ℕ → ℕ
-differences r p = big (xorRow (standing r p) (required r p))
+unfoldable pub mismatches : Row → ℕ → ℕ
+mismatches r p = big (xorRow (standing r p) (required r p))

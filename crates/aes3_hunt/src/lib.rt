@@ -10,7 +10,7 @@ ghost use Rattle.answer.specs.Answer.{verdict, rewritten};
 ghost use Rattle.answer.specs.Said.{verdictSaid};
 ghost use Rattle.aes3_hunt.specs.Align.{aligned};
 ghost use Rattle.aes3_hunt.specs.Hunt.{boundedHunt};
-ghost use Rattle.aes3_hunt.specs.Inner.{differences};
+ghost use Rattle.aes3_hunt.specs.Inner.{mismatches};
 ghost use Rattle.aes3_hunt.specs.Said.{huntSaid};
 use answer::NumberAnswer;
 use answer::Verdict;
@@ -38,7 +38,7 @@ fn nine(line: &[u8], t: usize) -> u32
 // the first highest.
 fn compare(line: &[u8], p: usize) -> u32
     requires { ⌜ (1 ≤ p) × (p + 72 ≤ length (now line) * 8) × (length (now line) ≤ 8192) ⌝ }
-    ensures { λ r. ⌜ r ≡ differences (symbols (now (line .entry))) p ⌝ }
+    ensures { λ r. ⌜ r ≡ mismatches (symbols (now (line .entry))) p ⌝ }
 {
     let z = nine(line, p - 1);
     let y = nine(line, p + 63);

@@ -15,7 +15,7 @@ use Rattle.subframe.specs.Signed.{inRange, codeOf}
 use Rattle.subframe.specs.Body.{parityOf}
 use Rattle.subframe.proofs.BodyLaws.{body-laid}
 use Rattle.block.specs.Side.{columns, columnLength}
-use Rattle.block.specs.Block.{sideAt, bodyAt}
+use Rattle.block.specs.Block.{sideAt, subframeBody}
 use Rattle.block.proofs.BlockLaws.{side-digit, side-octet, body-in}
 use Rattle.aes3_write.specs.Inner.{bodyWith, flags, flagsFrom, spread, spreadTable, octetIn, eightFlags}
 
@@ -142,7 +142,7 @@ module _ (side : List ℕ) (i : ℕ) where
 
   -- with a sample's bits they are the body
   pub body-with : (samples : List ℤ) (f : ℕ) → inRange 24 (getD samples i (pos 0)) ≡ true → f ≡ flags side i
-      → bodyWith (codeOf 24 (getD samples i (pos 0))) f ≡ bodyAt samples side i
+      → bodyWith (codeOf 24 (getD samples i (pos 0))) f ≡ subframeBody samples side i
   unfolding bodyWith flags
   body-with samples f r e =
       let d = three f (sideAt side 0 i) (sideAt side 1 i) (sideAt side 2 i) (side-digit side 0 i) (side-digit side 1 i) (side-digit side 2 i) e in

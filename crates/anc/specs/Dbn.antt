@@ -14,10 +14,10 @@ unfoldable pub nextDbn : ℕ → Answer ℕ
 nextDbn n = provided (asks 2 0 (leb n 255) ∷ []) (accepted (afterDbn n))
 
 -- what a sender that starts at n comes to in so many steps
-abbrev pub onward : Answer ℕ → Answer ℕ
-onward (Answer.accepted n) = nextDbn n
-onward (Answer.refused number place) = refused number place
+abbrev pub countedOn : Answer ℕ → Answer ℕ
+countedOn (Answer.accepted n) = nextDbn n
+countedOn (Answer.refused number place) = refused number place
 
 unfoldable pub stepped : ℕ → ℕ → Answer ℕ
 stepped zero n = accepted n
-stepped (suc k) n = onward (stepped k n)
+stepped (suc k) n = countedOn (stepped k n)

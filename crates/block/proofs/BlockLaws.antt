@@ -24,7 +24,7 @@ use Rattle.subframe.specs.Body.{parityOf, IsBody, Proper, bodyOf, bodyWritten, 
 use Rattle.block.specs.Side.{validityOf, validity, user, status, fault, columns, columnBit, columnLength, sideLength, sideBit, columnIn, columnOf}
 use Rattle.subframe.proofs.BodyTrips.{written-in, written-proper, proper-zero, read-written, Reading, reading, write-fields, body-proper}
 use Rattle.block.proofs.SideLaws.{column-lt, side-lt, side-in, column-at, row-column, written-back, getD-columnIn, length-column}
-use Rattle.block.specs.Block.{sideAt, bodyAt, bodiesOf, samplesOf, channelRow, sideOf, fillDemands, blockFilled}
+use Rattle.block.specs.Block.{sideAt, subframeBody, bodiesOf, samplesOf, columnRow, sideOf, fillDemands, blockFilled}
 use Rattle.block.specs.Check.{Faultless}
 
 -- every sample is one of 24 bits
@@ -39,11 +39,11 @@ Bodies bodies = (i : ℕ) → Proper (getD bodies i 0)
 
 pub length-bodies : (s : List ℤ) (t : List ℕ) → length (bodiesOf s t) ≡ 384
 unfolding bodiesOf
-length-bodies s t = length-listed 0 384 (bodyAt s t)
+length-bodies s t = length-listed 0 384 (subframeBody s t)
 
-pub getD-bodies : (s : List ℤ) (t : List ℕ) (i : ℕ) → i < 384 → getD (bodiesOf s t) i 0 ≡ bodyAt s t i
+pub getD-bodies : (s : List ℤ) (t : List ℕ) (i : ℕ) → i < 384 → getD (bodiesOf s t) i 0 ≡ subframeBody s t i
 unfolding bodiesOf
-getD-bodies s t i h = getD-listed 384 (bodyAt s t) i 0 h
+getD-bodies s t i h = getD-listed 384 (subframeBody s t) i 0 h
 
 pub length-samples : (b : List ℕ) → length (samplesOf b) ≡ 384
 unfolding samplesOf
@@ -55,7 +55,7 @@ getD-samples b i h = getD-listed 384 (λ i. sampleOf (getD b i 0)) i (pos 0) h
 
 -- the row and the octets of column k of what is read
 abbrev rowOf : List ℕ → ℕ → Row
-rowOf b k = channelRow (columnBit (k % columns)) b (k / columns)
+rowOf b k = columnRow (columnBit (k % columns)) b (k / columns)
 
 abbrev pub columnRead : List ℕ → ℕ → List ℕ
 columnRead b k = columnOf (rowOf b k)
@@ -65,12 +65,12 @@ unfolding sideOf
 length-side b = length-joined columnLength (columnRead b) (λ k. length-column (rowOf b k)) 0 (2 * columns)
 
 module _ (holds : ℕ → ℕ) (b : List ℕ) (ch : ℕ) where
-  pub length-channel-row : length (channelRow holds b ch) ≡ 192
-  unfolding channelRow
+  pub length-channel-row : length (columnRow holds b ch) ≡ 192
+  unfolding columnRow
   length-channel-row = length-listed 0 192 (λ f. odd (holds (getD b (2 * f + ch) 0)))
 
-  pub getD-channel-row : (f : ℕ) → f < 192 → getD (channelRow holds b ch) f false ≡ odd (holds (getD b (2 * f + ch) 0))
-  unfolding channelRow
+  pub getD-channel-row : (f : ℕ) → f < 192 → getD (columnRow holds b ch) f false ≡ odd (holds (getD b (2 * f + ch) 0))
+  unfolding columnRow
   getD-channel-row f h = getD-listed 192 (λ f. odd (holds (getD b (2 * f + ch) 0))) f false h
 
 pub getD-side : (b : List ℕ) (k j : ℕ) → k < 2 * columns → j < columnLength
@@ -102,7 +102,7 @@ told-proper z v u c (accepted b) n e = written-proper z v u c b e
 told-proper z v u c (refused m p) n e = n
 
 pub proper : (s : List ℤ) (t : List ℕ) → Bodies (bodiesOf s t)
-unfolding bodyAt
+unfolding subframeBody
 proper s t i =
     ⊎-elim
     (λ (h : 384 ≤ i). subst Proper (sym (List·getD-eq-default (bodiesOf s t) 0 {n = i} (rw length-bodies h))) proper-zero)
@@ -128,22 +128,22 @@ side-octet t k i hk hi =
 
 -- body i, from what it is to carry
 pub body-told : (s : List ℤ) (t : List ℕ) (i : ℕ) {z : ℤ} {v u c : ℕ} {a : Answer ℕ} → getD s i (pos 0) ≡ z → sideAt t 0 i ≡ v
-    → sideAt t 1 i ≡ u → sideAt t 2 i ≡ c → bodyWritten z v u c ≡ a → bodyAt s t i ≡ told 0 a .2
-unfolding bodyAt
+    → sideAt t 1 i ≡ u → sideAt t 2 i ≡ c → bodyWritten z v u c ≡ a → subframeBody s t i ≡ told 0 a .2
+unfolding subframeBody
 body-told s t i {z} {v} {u} {c} ez ev eu ec e =
     let same : bodyWritten (getD s i (pos 0)) (sideAt t 0 i) (sideAt t 1 i) (sideAt t 2 i) ≡ bodyWritten z v u c = cc in
     ap (λ (a : Answer ℕ). told 0 a .2) (same ∙ e)
 
 -- of a sample in range
 pub body-in : (s : List ℤ) (t : List ℕ) (i : ℕ) → inRange 24 (getD s i (pos 0)) ≡ true
-    → bodyAt s t i ≡ bodyOf (codeOf 24 (getD s i (pos 0))) (sideAt t 0 i) (sideAt t 1 i) (sideAt t 2 i)
+    → subframeBody s t i ≡ bodyOf (codeOf 24 (getD s i (pos 0))) (sideAt t 0 i) (sideAt t 1 i) (sideAt t 2 i)
 body-in s t i h =
     body-told s t i refl refl refl refl
     (written-in (getD s i (pos 0)) (sideAt t 0 i) (sideAt t 1 i) (sideAt t 2 i) h (side-digit t 0 i) (side-digit t 1 i) (side-digit t 2 i))
 
 module _ (s : List ℤ) (t : List ℕ) (ranges : InRange s) where
   -- body i carries sample i and its V, U and C
-  carries : (i : ℕ) → Reading (bodyAt s t i) (getD s i (pos 0), sideAt t 0 i, sideAt t 1 i, sideAt t 2 i)
+  carries : (i : ℕ) → Reading (subframeBody s t i) (getD s i (pos 0), sideAt t 0 i, sideAt t 1 i, sideAt t 2 i)
   carries i =
       let z = getD s i (pos 0) in
       let e = written-in z (sideAt t 0 i) (sideAt t 1 i) (sideAt t 2 i) (ranges i) (side-digit t 0 i) (side-digit t 1 i) (side-digit t 2 i) in
@@ -152,7 +152,7 @@ module _ (s : List ℤ) (t : List ℕ) (ranges : InRange s) where
       (reading b (z, sideAt t 0 i, sideAt t 1 i, sideAt t 2 i) (read-written z (sideAt t 0 i) (sideAt t 1 i) (sideAt t 2 i) b e))
 
   -- and is even
-  carried : Faultless t → (i k : ℕ) → i < 384 → k < columns → columnBit k (bodyAt s t i) ≡ sideAt t k i
+  carried : Faultless t → (i k : ℕ) → i < 384 → k < columns → columnBit k (subframeBody s t i) ≡ sideAt t k i
   unfolding columnBit
   carried none i zero hi h = rw (carries i .evenly) (ap (λ f. f .1) (carries i .fields))
   carried none i (suc zero) hi h = ap (λ f. f .2) (carries i .fields)
@@ -241,9 +241,9 @@ module _ (b : List ℕ) where
 
   pub bodies-back : length b ≡ 384 → Bodies b → bodiesOf (samplesOf b) (sideOf b) ≡ b
   unfolding bodiesOf
-  bodies-back n all = listed-all 384 (bodyAt (samplesOf b) (sideOf b)) b 0 n (λ i h. same i h)
+  bodies-back n all = listed-all 384 (subframeBody (samplesOf b) (sideOf b)) b 0 n (λ i h. same i h)
     where
-      same : (i : ℕ) → i < 384 → bodyAt (samplesOf b) (sideOf b) i ≡ getD b i 0
+      same : (i : ℕ) → i < 384 → subframeBody (samplesOf b) (sideOf b) i ≡ getD b i 0
       same i h =
           body-told (samplesOf b) (sideOf b) i (getD-samples b i h) (V-read i h ∙ rw (all i .evenly)) (U-read i h) (C-read i h)
           (write-fields (getD b i 0) (all i))

@@ -19,12 +19,12 @@ unfoldable pub sideAt : List ℕ → ℕ → ℕ → ℕ
 sideAt side column i = sideBit side (columns * (i % 2) + column) (i / 2)
 
 -- body i, of sample i and its V, U and C; 0 where the sample is out of range
-unfoldable pub bodyAt : List ℤ → List ℕ → ℕ → ℕ
-bodyAt samples side i =
+unfoldable pub subframeBody : List ℤ → List ℕ → ℕ → ℕ
+subframeBody samples side i =
     told 0 (bodyWritten (getD samples i (pos 0)) (sideAt side validity i) (sideAt side user i) (sideAt side status i)) .2
 
 unfoldable pub bodiesOf : List ℤ → List ℕ → List ℕ
-bodiesOf samples side = listed 0 384 (bodyAt samples side)
+bodiesOf samples side = listed 0 384 (subframeBody samples side)
 
 -- ---- from bodies to samples and side table
 
@@ -32,12 +32,12 @@ unfoldable pub samplesOf : List ℕ → List ℤ
 samplesOf bodies = listed 0 384 (λ i. sampleOf (getD bodies i 0))
 
 -- what is held of a channel's bodies, frame 0 first
-unfoldable pub channelRow : (ℕ → ℕ) → List ℕ → ℕ → Row
-channelRow holds bodies channel = listed 0 192 (λ frame. odd (holds (getD bodies (2 * frame + channel) 0)))
+unfoldable pub columnRow : (ℕ → ℕ) → List ℕ → ℕ → Row
+columnRow holds bodies channel = listed 0 192 (λ frame. odd (holds (getD bodies (2 * frame + channel) 0)))
 
 -- the columns of A, then those of B
 unfoldable pub sideOf : List ℕ → List ℕ
-sideOf bodies = joined 0 (2 * columns) (λ k. columnOf (channelRow (columnBit (k % columns)) bodies (k / columns)))
+sideOf bodies = joined 0 (2 * columns) (λ k. columnOf (columnRow (columnBit (k % columns)) bodies (k / columns)))
 
 -- ---- filling samples and side table from 384 bodies, each buffer of its length (1)
 

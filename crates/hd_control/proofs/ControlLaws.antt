@@ -19,16 +19,16 @@ use Rattle.anc.proofs.Enclosing.{length-words, length-enclosed}
 use Rattle.anc.proofs.Heads.{each-group, inFull, full-word}
 use Rattle.subframe.specs.Signed.{inRange, codeOf, signedOf}
 use Rattle.subframe.proofs.SignedLaws.{code-lt}
-use Rattle.hd_control.specs.Control.{dids, dc, ruleOf, delayNumber, delayWords, controlValues, controlPacket, delayAt, controlIn}
-use Rattle.hd_control.specs.Write.{inRanges}
-use Rattle.hd_control.specs.Inner.{Ranges, threeWords, wordsOfDelay}
+use Rattle.hd_control.specs.Control.{controlDids, controlDc, ruleOf, delayNumber, delayWords, controlValues, controlPacket, delayAt, controlIn}
+use Rattle.hd_control.specs.Write.{controlInRanges}
+use Rattle.hd_control.specs.Inner.{ControlRanges, threeWords, wordsOfDelay}
 use Rattle.hd_control.specs.declared.Control.{Control}
 use Rattle.hd_control.specs.declared.Delay.{Delay}
 
 -- ---- the ranges
 
-pub ranges : (c : Control) → inRanges c ≡ true → Ranges c
-unfolding inRanges
+pub ranges : (c : Control) → controlInRanges c ≡ true → ControlRanges c
+unfolding controlInRanges
 ranges c e =
     let s9 = both-true (leb 1 (c .group) && leb (c .group) 4 && leb (c .frame) 511 && leb (c .rate) 7 && leb (c .asynchronous) 1 && leb (c .active) 15 && leb (c .valid12) 1 && leb (c .valid34) 1 && inRange 26 (c .delay12)) (inRange 26 (c .delay34)) e in
     let s8 = both-true (leb 1 (c .group) && leb (c .group) 4 && leb (c .frame) 511 && leb (c .rate) 7 && leb (c .asynchronous) 1 && leb (c .active) 15 && leb (c .valid12) 1 && leb (c .valid34) 1) (inRange 26 (c .delay12)) (s9 .0) in
@@ -52,8 +52,8 @@ ranges c e =
       second-delay = s9 .1;
     }
 
-pub ranged : (c : Control) → Ranges c → inRanges c ≡ true
-unfolding inRanges
+pub ranged : (c : Control) → ControlRanges c → controlInRanges c ≡ true
+unfolding controlInRanges
 ranged c r =
     rw (
       le-leb 1 (c .group) (r .some),
@@ -85,41 +85,41 @@ module _ (c : Control) (some : 1 ≤ c .group) (four : c .group ≤ 4) (number :
         le-leb (c .valid34) 1 second-valid,
       )
 
-  pub last-delay : inRange 26 (c .delay12) ≡ true → inRange 26 (c .delay34) ≡ inRanges c
-  unfolding inRanges
+  pub last-delay : inRange 26 (c .delay12) ≡ true → inRange 26 (c .delay34) ≡ controlInRanges c
+  unfolding controlInRanges
   last-delay e = rw (numbers, e)
 
-  pub first-fails : inRange 26 (c .delay12) ≡ false → false ≡ inRanges c
-  unfolding inRanges
+  pub first-fails : inRange 26 (c .delay12) ≡ false → false ≡ controlInRanges c
+  unfolding controlInRanges
   first-fails e = rw (numbers, e)
 
 -- ---- DID, DBN and DC
 
-did-octet : (group : ℕ) → 1 ≤ group → group ≤ 4 → 0xE4 - group ≡ didIn dids group % 2 ^ 8
-did-octet = each-group (λ g. 0xE4 - g) (λ g. didIn dids g % 2 ^ 8) tt
+did-octet : (group : ℕ) → 1 ≤ group → group ≤ 4 → 0xE4 - group ≡ didIn controlDids group % 2 ^ 8
+did-octet = each-group (λ g. 0xE4 - g) (λ g. didIn controlDids g % 2 ^ 8) tt
 
-pub did-group : (group : ℕ) → 1 ≤ group → group ≤ 4 → groupIn dids (didIn dids group) ≡ group
+pub did-group : (group : ℕ) → 1 ≤ group → group ≤ 4 → groupIn controlDids (didIn controlDids group) ≡ group
 unfolding first
-did-group = each-group (λ g. groupIn dids (didIn dids g)) (λ g. g) tt
+did-group = each-group (λ g. groupIn controlDids (didIn controlDids g)) (λ g. g) tt
 
-did-full : (group : ℕ) → 1 ≤ group → group ≤ 4 → inFull (didIn dids group) ≡ didIn dids group
+did-full : (group : ℕ) → 1 ≤ group → group ≤ 4 → inFull (didIn controlDids group) ≡ didIn controlDids group
 unfolding ones
-did-full = each-group (λ g. inFull (didIn dids g)) (didIn dids) tt
+did-full = each-group (λ g. inFull (didIn controlDids g)) (didIn controlDids) tt
 
-pub did-word : (group : ℕ) → 1 ≤ group → group ≤ 4 → wordOf (didIn dids group % 2 ^ 8) ≡ didIn dids group
-did-word group h l = full-word (didIn dids group) (did-full group h l)
+pub did-word : (group : ℕ) → 1 ≤ group → group ≤ 4 → wordOf (didIn controlDids group % 2 ^ 8) ≡ didIn controlDids group
+did-word group h l = full-word (didIn controlDids group) (did-full group h l)
 
 pub dbn-word : wordOf 0x00 ≡ 0x200
 unfolding ones
 dbn-word = full-word 0x200 refl
 
-pub dc-word : wordOf (dc % 2 ^ 8) ≡ dc
+pub dc-word : wordOf (controlDc % 2 ^ 8) ≡ controlDc
 unfolding ones
-dc-word = full-word dc refl
+dc-word = full-word controlDc refl
 
 -- ---- the words as they are laid
 
-module _ (c : Control) (r : Ranges c) (a b : Delay) (did frame rate active : ℕ) where
+module _ (c : Control) (r : ControlRanges c) (a b : Delay) (did frame rate active : ℕ) where
   pub words-laid : did ≡ wordOf (0xE4 - c .group) → frame ≡ opposed (c .frame % 2 ^ 9) → rate ≡ opposed ((c .asynchronous + c .rate * 2) % 2 ^ 9)
       → active ≡ wordOf (c .active) → threeWords a ≡ wordsOfDelay (delayNumber (c .valid12) (c .delay12))
       → threeWords b ≡ wordsOfDelay (delayNumber (c .valid34) (c .delay34))
@@ -149,7 +149,7 @@ packet-size c =
 pub delay-number-lt : (valid : ℕ) (delay : ℤ) → valid ≤ 1 → inRange 26 delay ≡ true → delayNumber valid delay < 2 ^ 27
 delay-number-lt valid delay h l = omega (arith, code-lt 26 (omega arith) delay l)
 
-pub values-fit : (c : Control) → Ranges c → (i : ℕ) → i < 14 → getD (controlValues c) i 0 < 2 ^ widthBy (ruleOf (3 + i))
+pub values-fit : (c : Control) → ControlRanges c → (i : ℕ) → i < 14 → getD (controlValues c) i 0 < 2 ^ widthBy (ruleOf (3 + i))
 unfolding controlValues
 values-fit c r zero l = omega arith
 values-fit c r (suc zero) l = omega arith
@@ -189,6 +189,6 @@ pub made : (words : List ℕ) (group first second : ℕ) (d e : ℤ) → group �
 unfolding controlIn
 made words group first second d e p q r s t = rw (s, t, q, r, p)
 
-pub group-in : (words : List ℕ) → controlIn words .group ≡ groupIn dids (getD words 3 0)
+pub group-in : (words : List ℕ) → controlIn words .group ≡ groupIn controlDids (getD words 3 0)
 unfolding controlIn
 group-in words = refl

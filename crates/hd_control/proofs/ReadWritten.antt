@@ -19,10 +19,10 @@ use Rattle.anc.proofs.Heads.{Named, names}
 use Rattle.anc.proofs.Enclosing.{packet-back, run-values, run-value}
 use Rattle.subframe.specs.Signed.{codeOf, signedOf}
 use Rattle.subframe.proofs.SignedLaws.{signed-in, code-signed}
-use Rattle.hd_control.specs.Control.{dids, dc, controlHead, ruleOf, delayNumber, controlValues, controlPacket, delayAt, controlIn}
-use Rattle.hd_control.specs.Write.{writeDemands, writeAnswer, wordsWritten}
+use Rattle.hd_control.specs.Control.{controlDids, controlDc, controlHead, ruleOf, delayNumber, controlValues, controlPacket, delayAt, controlIn}
+use Rattle.hd_control.specs.Write.{writeDemands, writeAnswer, controlWritten}
 use Rattle.hd_control.specs.Read.{stateDemands, readDemands, readAnswer}
-use Rattle.hd_control.specs.Inner.{Ranges}
+use Rattle.hd_control.specs.Inner.{ControlRanges}
 use Rattle.hd_control.specs.declared.Control.{Control}
 use Rattle.hd_control.proofs.ControlLaws.{ranged, fourteen, packet-of, delay-lt}
 
@@ -89,10 +89,10 @@ module _ (words : List ℕ) (met : AllMet (readDemands words)) where
   ten : (k : ℕ) → k < 18 → wideAt words k ≡ false
   ten k l = halves .0 .0 k (omega arith) (omega (arith, long))
 
-  group-read : Named dids (getD words 3 0) (groupIn dids (getD words 3 0))
-  group-read = names dids (getD words 3 0) (omega arith) (of-words .0 .1 .1 .1 .0)
+  group-read : Named controlDids (getD words 3 0) (groupIn controlDids (getD words 3 0))
+  group-read = names controlDids (getD words 3 0) (omega arith) (of-words .0 .1 .1 .1 .0)
 
-  within : Ranges c
+  within : ControlRanges c
   unfolding controlIn
   within = record {
     some = group-read .some;
@@ -112,7 +112,7 @@ module _ (words : List ℕ) (met : AllMet (readDemands words)) where
   unfolding controlValues controlIn
   at zero l = ap (λ (w : ℕ). w % 2 ^ 8) (sym (group-read .word))
   at (suc zero) l = omega (arith, eqb-true (getD words 4 0) 0x200 (halves .1 .0))
-  at (suc (suc zero)) l = omega (arith, eqb-true (getD words 5 0) dc (of-words .0 .1 .1 .1 .1 .0))
+  at (suc (suc zero)) l = omega (arith, eqb-true (getD words 5 0) controlDc (of-words .0 .1 .1 .1 .1 .0))
   at (suc (suc (suc zero))) l = refl
   at (suc (suc (suc (suc zero)))) l = rate-back (getD words 7 0) (eqb-true (getD words 7 0 / 2 ^ 4 % 2 ^ 4) 0 (halves .1 .1 .1 .0))
   at (suc (suc (suc (suc (suc zero))))) l = omega (arith, eqb-true (getD words 8 0 / 2 ^ 4 % 2 ^ 4) 0 (halves .1 .1 .1 .1 .1 .0))
@@ -148,7 +148,7 @@ module _ (words : List ℕ) (met : AllMet (readDemands words)) where
 
 -- the writer, given the fields of an accepted packet and 18 lent words, accepts, and leaves the same 18 words
 pub control-written-read : (words : List ℕ) (c : Control) → readAnswer words ≡ accepted c → (old : List ℕ) → length old ≡ 18
-    → (verdict (writeAnswer c (length old)) ≡ accepted tt) × (wordsWritten c old ≡ words)
+    → (verdict (writeAnswer c (length old)) ≡ accepted tt) × (controlWritten c old ≡ words)
 unfolding readAnswer
 control-written-read words c e old h =
     let m = met-by (controlIn words) (readDemands words) e in

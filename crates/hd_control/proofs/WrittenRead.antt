@@ -18,10 +18,10 @@ use Rattle.anc.proofs.SumLaws.{opposed-none}
 use Rattle.anc.proofs.Enclosing.{length-enclosed, sum-enclosed, packet-long, packet-word, packet-value, packet-narrow, packet-right}
 use Rattle.subframe.specs.Signed.{inRange, codeOf, signedOf}
 use Rattle.subframe.proofs.SignedLaws.{signed-code}
-use Rattle.hd_control.specs.Control.{dids, dc, controlHead, ruleOf, misused, reserved, delayNumber, controlValues, controlPacket, delayAt, controlIn}
-use Rattle.hd_control.specs.Write.{writeDemands, writeAnswer, wordsWritten}
+use Rattle.hd_control.specs.Control.{controlDids, controlDc, controlHead, ruleOf, misused, rateReserved, delayNumber, controlValues, controlPacket, delayAt, controlIn}
+use Rattle.hd_control.specs.Write.{writeDemands, writeAnswer, controlWritten}
 use Rattle.hd_control.specs.Read.{stateDemands, readDemands, readAnswer}
-use Rattle.hd_control.specs.Inner.{Ranges}
+use Rattle.hd_control.specs.Inner.{ControlRanges}
 use Rattle.hd_control.specs.declared.Control.{Control}
 use Rattle.hd_control.proofs.ControlLaws.{ranges, did-group, did-word, dbn-word, dc-word, packet-of, fourteen, packet-size, delay-number-lt, values-fit}
 
@@ -45,11 +45,11 @@ module _ (valid : ℕ) (delay : ℤ) (v : valid ≤ 1) (l : inRange 26 delay ≡
 
 -- ---- the words of an accepted packet
 
-module _ (c : Control) (r : Ranges c) (plain : misused (c .asynchronous) (c .frame) ≡ false) (known : reserved (c .rate) ≡ false) where
+module _ (c : Control) (r : ControlRanges c) (plain : misused (c .asynchronous) (c .frame) ≡ false) (known : rateReserved (c .rate) ≡ false) where
   abbrev ws : List ℕ
   ws = enclosed (wordsBy ruleOf 3 (controlValues c))
 
-  word-3 : getD ws 3 0 ≡ didIn dids (c .group)
+  word-3 : getD ws 3 0 ≡ didIn controlDids (c .group)
   unfolding controlValues
   word-3 =
       packet-word ruleOf (controlValues c) 14 (fourteen c) (values-fit c r) 0 (omega arith) ∙ did-word (c .group) (r .some) (r .four)
@@ -58,7 +58,7 @@ module _ (c : Control) (r : Ranges c) (plain : misused (c .asynchronous) (c .fra
   unfolding controlValues
   word-4 = packet-word ruleOf (controlValues c) 14 (fourteen c) (values-fit c r) 1 (omega arith) ∙ dbn-word
 
-  word-5 : getD ws 5 0 ≡ dc
+  word-5 : getD ws 5 0 ≡ controlDc
   unfolding controlValues
   word-5 = packet-word ruleOf (controlValues c) 14 (fourteen c) (values-fit c r) 2 (omega arith) ∙ dc-word
 
@@ -113,8 +113,8 @@ module _ (c : Control) (r : Ranges c) (plain : misused (c .asynchronous) (c .fra
   channels : getD ws 8 0 % 2 ^ 4 ≡ c .active
   channels = omega (arith, value-8, r .channels)
 
-  group : groupIn dids (getD ws 3 0) ≡ c .group
-  group = ap (groupIn dids) word-3 ∙ did-group (c .group) (r .some) (r .four)
+  group : groupIn controlDids (getD ws 3 0) ≡ c .group
+  group = ap (groupIn controlDids) word-3 ∙ did-group (c .group) (r .some) (r .four)
 
   fields : controlIn ws ≡ c
   unfolding controlIn
@@ -136,14 +136,14 @@ module _ (c : Control) (r : Ranges c) (plain : misused (c .asynchronous) (c .fra
   states : AllMet (stateDemands ws)
   states =
       eq-eqb (getD ws 4 0) 0x200 word-4 & ap not (ap₂ misused flag value-6 ∙ plain)
-      & eq-eqb (getD ws 7 0 / 2 ^ 4 % 2 ^ 4) 0 (omega (arith, value-7, r .use-flag, r .code)) & ap not (ap reserved code ∙ known)
+      & eq-eqb (getD ws 7 0 / 2 ^ 4 % 2 ^ 4) 0 (omega (arith, value-7, r .use-flag, r .code)) & ap not (ap rateReserved code ∙ known)
       & eq-eqb (getD ws 8 0 / 2 ^ 4 % 2 ^ 4) 0 (omega (arith, value-8, r .channels))
       & eq-eqb (getD ws 15 0 % 2 ^ 9) 0 (omega (arith, word-15)) & eq-eqb (getD ws 16 0 % 2 ^ 9) 0 (omega (arith, word-16)) & tt
 
   head : AllMet (headDemands (controlHead ws) ws)
   head =
-      refl & refl & refl & eq-eqb (getD ws 3 0) (didIn dids (groupIn dids (getD ws 3 0))) (word-3 ∙ ap (didIn dids) (sym group))
-      & eq-eqb (getD ws 5 0) dc word-5 & tt
+      refl & refl & refl & eq-eqb (getD ws 3 0) (didIn controlDids (groupIn controlDids (getD ws 3 0))) (word-3 ∙ ap (didIn controlDids) (sym group))
+      & eq-eqb (getD ws 5 0) controlDc word-5 & tt
 
   long : length ws ≡ 18
   long = length-enclosed (wordsBy ruleOf 3 (controlValues c)) 14 (packet-long ruleOf (controlValues c) 14 (fourteen c) (values-fit c r))
@@ -164,14 +164,14 @@ module _ (c : Control) (r : Ranges c) (plain : misused (c .asynchronous) (c .fra
 
 -- the reader, given the words that the writer leaves in 18 lent ones, gives the same fields
 pub control-read-written : (c : Control) (old : List ℕ) → verdict (writeAnswer c (length old)) ≡ accepted tt
-    → readAnswer (wordsWritten c old) ≡ accepted c
+    → readAnswer (controlWritten c old) ≡ accepted c
 unfolding writeAnswer
 control-read-written c old e =
     let v = value-of (λ w. tt) (writeAnswer c (length old)) e in
     let m = met (controlPacket c) (writeDemands c (length old)) (v .1) in
-    let left : wordsWritten c old ≡ controlPacket c =
+    let left : controlWritten c old ≡ controlPacket c =
     ap (λ (a : Answer (List ℕ)). rewritten a old) (v .1 ∙ ap accepted (sym (m .1)))
     ∙ filled (λ w. w) (controlPacket c) old (packet-size c ∙ sym (eqb-true (length old) 18 (m .0 .0))) in
     ap readAnswer (left ∙ sym (packet-of c))
     ∙ packet-read c (ranges c (m .0 .1 .0)) (not-true (misused (c .asynchronous) (c .frame)) (m .0 .1 .1 .0))
-    (not-true (reserved (c .rate)) (m .0 .1 .1 .1 .0))
+    (not-true (rateReserved (c .rate)) (m .0 .1 .1 .1 .0))

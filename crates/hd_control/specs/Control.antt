@@ -15,15 +15,15 @@ use Rattle.subframe.specs.Signed.{codeOf, signedOf}
 use Rattle.hd_control.specs.declared.Control.{Control}
 
 -- DID of groups 1 to 4
-abbrev pub dids : List ℕ
-dids = 0x1E3 ∷ 0x2E2 ∷ 0x2E1 ∷ 0x1E0 ∷ []
+abbrev pub controlDids : List ℕ
+controlDids = 0x1E3 ∷ 0x2E2 ∷ 0x2E1 ∷ 0x1E0 ∷ []
 
-abbrev pub dc : ℕ
-dc = 0x10B
+abbrev pub controlDc : ℕ
+controlDc = 0x10B
 
 -- the words of the head and their values
 abbrev pub controlHead : List ℕ → List (ℕ × ℕ)
-controlHead words = headIn dids dc words
+controlHead words = headIn controlDids controlDc words
 
 -- b8 is the parity in words 3 to 5 and 8 (the active channels), a bit of the value in 6 (the frame number) and 9 to 14 (the delays), and 0
 -- in 7 (the rate), 15 and 16 (reserved)
@@ -38,8 +38,8 @@ abbrev pub misused : ℕ → ℕ → Bool
 misused asynchronous frame = eqb asynchronous 1 && not (eqb frame 0)
 
 -- rate codes 3 to 6
-abbrev pub reserved : ℕ → Bool
-reserved rate = leb 3 rate && leb rate 6
+abbrev pub rateReserved : ℕ → Bool
+rateReserved rate = leb 3 rate && leb rate 6
 
 -- ---- writing
 
@@ -55,7 +55,7 @@ delayWords d = d % 2 ^ 9 ∷ d / 2 ^ 9 % 2 ^ 9 ∷ d / 2 ^ 18 % 2 ^ 9 ∷ []
 -- the delays of channels 1 and 2, and of 3 and 4; two that are reserved
 unfoldable pub controlValues : Control → List ℕ
 controlValues c =
-    didIn dids (c .group) % 2 ^ 8 ∷ 0x00 ∷ dc % 2 ^ 8 ∷ c .frame ∷ (c .asynchronous + c .rate * 2) ∷ c .active
+    didIn controlDids (c .group) % 2 ^ 8 ∷ 0x00 ∷ controlDc % 2 ^ 8 ∷ c .frame ∷ (c .asynchronous + c .rate * 2) ∷ c .active
     ∷ (delayWords (delayNumber (c .valid12) (c .delay12)) ++ delayWords (delayNumber (c .valid34) (c .delay34)) ++ (0 ∷ 0 ∷ []))
 
 unfoldable pub controlPacket : Control → List ℕ
@@ -69,7 +69,7 @@ delayAt words k = getD words k 0 % 2 ^ 9 + getD words (k + 1) 0 % 2 ^ 9 * 2 ^ 9 
 
 unfoldable pub controlIn : List ℕ → Control
 controlIn words = record {
-  group = groupIn dids (getD words 3 0);
+  group = groupIn controlDids (getD words 3 0);
   frame = getD words 6 0 % 2 ^ 9;
   rate = getD words 7 0 / 2 % 2 ^ 3;
   asynchronous = getD words 7 0 % 2;

@@ -15,7 +15,7 @@ use Rattle.hd_control.specs.declared.Control.{Control}
 use Rattle.hd_control.specs.declared.Delay.{Delay}
 
 -- what the ranges say
-pub record Ranges (c : Control) : Type 0 where
+pub record ControlRanges (c : Control) : Type 0 where
   pub some : 1 ≤ c .group
   pub four : c .group ≤ 4
   pub number : c .frame ≤ 511
@@ -35,8 +35,8 @@ abbrev pub wordsOfDelay : ℕ → List ℕ
 wordsOfDelay d = map opposed (delayWords d)
 
 -- the first of words 3 to 16 whose b8 or b9 is wrong, counted from word 3; or 14
-unfoldable pub firstWrong : List ℕ → ℕ
-firstWrong ws = first (λ i. wrongAt ruleOf ws (3 + i)) 0 14 (λ i. i) 14
+unfoldable pub firstWrongByRule : List ℕ → ℕ
+firstWrongByRule ws = first (λ i. wrongAt ruleOf ws (3 + i)) 0 14 (λ i. i) 14
 
 -- what is read of 18 words of ten bits with a right head
 unfoldable pub headedRead : List ℕ → Answer Control

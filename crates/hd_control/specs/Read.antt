@@ -8,7 +8,7 @@ use lib.ListN.{length, getD}
 use Rattle.answer.specs.Answer.{Answer, Answer.accepted, Answer.refused}
 use Rattle.answer.specs.Demand.{Demand, Demand.asks, provided}
 use Rattle.anc.specs.Enclosed.{enclosedDemands}
-use Rattle.hd_control.specs.Control.{controlHead, ruleOf, misused, reserved, controlIn}
+use Rattle.hd_control.specs.Control.{controlHead, ruleOf, misused, rateReserved, controlIn}
 use Rattle.hd_control.specs.declared.Control.{Control}
 use Rattle.hd_control.specs.declared.ControlAnswer.{ControlAnswer}
 use Rattle.hd_control.specs.declared.ControlAnswer.the-variants.{Read, Refused}
@@ -18,7 +18,7 @@ use Rattle.hd_control.specs.declared.ControlAnswer.the-variants.{Read, R
 abbrev pub stateDemands : List ℕ → List Demand
 stateDemands words =
     asks 12 4 (eqb (getD words 4 0) 0x200) ∷ asks 12 6 (not (misused (getD words 7 0 % 2) (getD words 6 0 % 2 ^ 9)))
-    ∷ asks 12 7 (eqb (getD words 7 0 / 2 ^ 4 % 2 ^ 4) 0) ∷ asks 12 7 (not (reserved (getD words 7 0 / 2 % 2 ^ 3)))
+    ∷ asks 12 7 (eqb (getD words 7 0 / 2 ^ 4 % 2 ^ 4) 0) ∷ asks 12 7 (not (rateReserved (getD words 7 0 / 2 % 2 ^ 3)))
     ∷ asks 12 8 (eqb (getD words 8 0 / 2 ^ 4 % 2 ^ 4) 0) ∷ asks 12 15 (eqb (getD words 15 0 % 2 ^ 9) 0)
     ∷ asks 12 16 (eqb (getD words 16 0 % 2 ^ 9) 0) ∷ []
 

@@ -8,10 +8,10 @@ ghost use Rattle.answer.specs.Said.{verdictSaid};
 ghost use Rattle.anc.specs.Enclosed.{wordsBy};
 ghost use Rattle.anc.specs.Inner.{FirstUnmet};
 ghost use Rattle.subframe.specs.Signed.{inRange, codeOf, signedOf};
-ghost use Rattle.hd_control.specs.Control.{ruleOf, misused, reserved, delayNumber, controlValues, delayAt, controlIn};
-ghost use Rattle.hd_control.specs.Write.{inRanges, writeAnswer, wordsWritten};
+ghost use Rattle.hd_control.specs.Control.{ruleOf, misused, rateReserved, delayNumber, controlValues, delayAt, controlIn};
+ghost use Rattle.hd_control.specs.Write.{controlInRanges, writeAnswer, controlWritten};
 ghost use Rattle.hd_control.specs.Read.{stateDemands, readAnswer, controlSaid};
-ghost use Rattle.hd_control.specs.Inner.{Ranges, threeWords, wordsOfDelay, firstWrong, headedRead};
+ghost use Rattle.hd_control.specs.Inner.{ControlRanges, threeWords, wordsOfDelay, firstWrongByRule, headedRead};
 use anc::B8;
 use answer::NumberAnswer;
 use answer::Verdict;
@@ -84,14 +84,14 @@ fn misuses(asynchronous: u32, frame: u32) -> bool
 
 // Whether a rate code is reserved.
 fn is_reserved(rate: u32) -> bool
-    ensures { λ r. ⌜ r ≡ reserved rate ⌝ }
+    ensures { λ r. ⌜ r ≡ rateReserved rate ⌝ }
 {
     3 <= rate && rate <= 6
 }
 
 // Group 1 to 4, frame to 511, rate to 7, active to 15, the flags 0 or 1, delays of 26 bits.
 fn in_ranges(c: Control) -> bool
-    ensures { λ r. ⌜ r ≡ inRanges c ⌝ }
+    ensures { λ r. ⌜ r ≡ controlInRanges c ⌝ }
 {
     if c.group < 1 {
         return false;
@@ -148,7 +148,7 @@ fn delay_words(valid: u32, delay: i32) -> Delay
 
 // Words 3 to 16; DBN, DC and the words that are reserved are the same in every packet.
 fn lay(c: Control) -> [u16; 14]
-    requires { ⌜ Ranges c ⌝ }
+    requires { ⌜ ControlRanges c ⌝ }
     ensures { λ r. ⌜ r ≡ wordsBy ruleOf 3 (controlValues c) ⌝ }
 {
     let did = anc::word((0xE4 - c.group) as u8);
@@ -178,7 +178,7 @@ fn lay(c: Control) -> [u16; 14]
 // Writes the packet of these fields into 18 words: refusals 1, 2, 12 at word 6, 12 at word 7.
 pub fn write_control(c: Control, words: &mut [u16]) -> Verdict
     ensures { λ r. ⌜ verdictSaid r ≡ verdict (writeAnswer c (length (now (words .entry)))) ⌝ }
-    ensures { λ r. ⌜ now (words .exit) ≡ wordsWritten c (now (words .entry)) ⌝ }
+    ensures { λ r. ⌜ now (words .exit) ≡ controlWritten c (now (words .entry)) ⌝ }
 {
     if words.len() != 18 {
         return Verdict::Refused {
@@ -234,7 +234,7 @@ fn rule(k: usize) -> B8
 // The first of words 3 to 16 whose b8 or b9 is wrong, counted from word 3; or 14.
 fn first_wrong(words: &[u16]) -> usize
     requires { ⌜ length (now words) ≡ 18 ⌝ }
-    ensures { λ r. ⌜ r ≡ firstWrong (now (words .entry)) ⌝ }
+    ensures { λ r. ⌜ r ≡ firstWrongByRule (now (words .entry)) ⌝ }
 {
     let mut i = 0;
     while i < 14 {

@@ -28,8 +28,8 @@ use Rattle.hd_read.specs.Read.{bodiesAfter}
 use Rattle.hd_read.specs.Read.{readAnswer as packetReadAnswer}
 use Rattle.hd_repair.specs.Repair.{repairAnswer, wordsRepaired}
 use Rattle.hd_control.specs.Write.{writeAnswer as controlAnswer}
-use Rattle.hd_control.specs.Write.{wordsWritten as controlWritten}
-use Rattle.talkback.specs.Talkback.{programOf, voiceOf, joinAnswer, separateAnswer}
+use Rattle.hd_control.specs.Write.{controlWritten}
+use Rattle.talkback.specs.Talkback.{programOf, voiceOf, voiceJoinAnswer, separateAnswer}
 use Rattle.levels.specs.Lines.{lineAt, sheetJoined}
 use Rattle.levels.specs.Sheets.{sheetOf}
 use Rattle.levels.specs.Calls.{asBlock, startAnswer, startLeft, joinLeft, addAnswer, addLeft}
@@ -150,8 +150,8 @@ Promised Lent.hd-control-write-words =
 -- 384 samples, the program's as well, and 128 of the voice
 Promised Lent.talkback-join-samples =
     (program voice : List ℤ) (side : List ℕ)
-    → NoResidue 384 (λ samples. joinAnswer program voice side (length samples))
-    (λ samples. rewritten (joinAnswer program voice side (length samples)) samples)
+    → NoResidue 384 (λ samples. voiceJoinAnswer program voice side (length samples))
+    (λ samples. rewritten (voiceJoinAnswer program voice side (length samples)) samples)
 Promised Lent.talkback-separate-program =
     (samples : List ℤ) (side : List ℕ) (voice : List ℤ)
     → NoResidue 384 (λ program. separateAnswer samples side (length program) (length voice))

@@ -12,14 +12,14 @@ use Rattle.status.specs.Numbers.{numbersOf}
 use Rattle.status.specs.declared.MeaningNumbers.{MeaningNumbers}
 
 -- 24 octets (1)
-abbrev pub statusDemands : List ℕ → List Demand
-statusDemands status = asks 1 0 (eqb (length status) 24) ∷ []
+abbrev pub statusLengthDemands : List ℕ → List Demand
+statusLengthDemands status = asks 1 0 (eqb (length status) 24) ∷ []
 
 -- whether the CRCC is right: 1, else 0
 unfoldable pub rightAnswer : List ℕ → Answer ℕ
-rightAnswer status = provided (statusDemands status) (accepted (digit (crccRight status)))
+rightAnswer status = provided (statusLengthDemands status) (accepted (digit (crccRight status)))
 
 -- the meaning of bytes 0 to 2, in numbers
 unfoldable pub meaningAnswer : List ℕ → Answer MeaningNumbers
 meaningAnswer status =
-    provided (statusDemands status) (accepted (numbersOf (meaningOf (getD status 0 0) (getD status 1 0) (getD status 2 0))))
+    provided (statusLengthDemands status) (accepted (numbersOf (meaningOf (getD status 0 0) (getD status 1 0) (getD status 2 0))))

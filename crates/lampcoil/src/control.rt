@@ -3,7 +3,7 @@ ghost use mathlib.Core.Path.{_≡_};
 ghost use lib.ListN.{length};
 ghost use Rattle.answer.specs.Answer.{verdict};
 ghost use Rattle.hd_control.specs.Write.{writeAnswer};
-ghost use Rattle.hd_control.specs.Write.{wordsWritten as controlWritten};
+ghost use Rattle.hd_control.specs.Write.{controlWritten};
 ghost use Rattle.hd_control.specs.Read.{readAnswer, controlSaid};
 ghost use Rattle.lampcoil.specs.Told.{toldVerdict};
 ghost use Rattle.lampcoil.specs.Control.{toldControl, controlLent};

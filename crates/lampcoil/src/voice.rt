@@ -2,7 +2,7 @@
 ghost use mathlib.Core.Path.{_≡_};
 ghost use lib.ListN.{length};
 ghost use Rattle.answer.specs.Answer.{verdict, after, rewritten};
-ghost use Rattle.talkback.specs.Talkback.{programOf, voiceOf, joinAnswer, separateAnswer};
+ghost use Rattle.talkback.specs.Talkback.{programOf, voiceOf, voiceJoinAnswer, separateAnswer};
 ghost use Rattle.lampcoil.specs.Told.{toldVerdict};
 use crate::Told;
 use crate::answers;
@@ -15,8 +15,8 @@ pub extern "C" fn lampcoil_talkback_join(
     side: &[u8],
     samples: &mut [i32],
 ) -> Told
-    ensures { λ r. ⌜ r ≡ toldVerdict (verdict (joinAnswer (now (program .entry)) (now (voice .entry)) (now (side .entry)) (length (now (samples .entry))))) ⌝ }
-    ensures { λ _. ⌜ now (samples .exit) ≡ rewritten (joinAnswer (now (program .entry)) (now (voice .entry)) (now (side .entry)) (length (now (samples .entry)))) (now (samples .entry)) ⌝ }
+    ensures { λ r. ⌜ r ≡ toldVerdict (verdict (voiceJoinAnswer (now (program .entry)) (now (voice .entry)) (now (side .entry)) (length (now (samples .entry))))) ⌝ }
+    ensures { λ _. ⌜ now (samples .exit) ≡ rewritten (voiceJoinAnswer (now (program .entry)) (now (voice .entry)) (now (side .entry)) (length (now (samples .entry)))) (now (samples .entry)) ⌝ }
 {
     answers::verdict(talkback::join(program, voice, side, samples))
 }

@@ -13,7 +13,7 @@ use Rattle.bits.proofs.Tests.{pick-cases}
 use Rattle.madi_code.specs.Groups.{groupCode, groupOf}
 use Rattle.madi_code.specs.Channels.{channelRow, channelFrom, channelOf}
 use Rattle.bits.proofs.Lists.{getD-listed, listed-all}
-use Rattle.madi_code.specs.Inner.{Sends, groupTable, eightGroups, meant, Means, meaningTable, eightSum, eightFours, wordBy, channelBy}
+use Rattle.madi_code.specs.Inner.{Sends, groupTable, eightGroups, meant, Means, meaningTable, eightSum, eightFours, wordByTable, channelBy}
 use Rattle.madi_code.specs.declared.Group.the-variants.{Data}
 use Rattle.madi_code.specs.declared.ChannelBits.{ChannelBits}
 use Rattle.madi_code.specs.declared.ChannelBits.the-variants.{Word}
@@ -94,8 +94,8 @@ module _ (t : List ℕ) (v : ℕ) (right : Means t) where
       let i = four-more 7 w7 (omega arith) (omega arith) in
       (omega arith, a .1 ∙ b .1 ∙ c .1 ∙ d .1 ∙ e .1 ∙ f .1 ∙ g .1 ∙ i .1 ∙ ap Word (omega arith))
 
-  pub word-received : wordBy t v < 2 ^ 32 → channelOf (bigBits 40 v) ≡ Word (wordBy t v)
-  unfolding wordBy
+  pub word-received : wordByTable t v < 2 ^ 32 → channelOf (bigBits 40 v) ≡ Word (wordByTable t v)
+  unfolding wordByTable
   word-received =
       pick-cases (λ (w : ℕ). w < 2 ^ 32 → channelOf (bigBits 40 v) ≡ Word w) (ltb (eightSum t v) 128) _ _
       (λ s h. eight (ltb-true (eightSum t v) 128 s) .1) (λ f h. absurd (omega arith))
@@ -103,8 +103,8 @@ module _ (t : List ℕ) (v : ℕ) (right : Means t) where
   pub channel-received : channelBy t v ≡ channelOf (bigBits 40 v)
   unfolding channelBy
   channel-received =
-      pick-cases (λ (x : ChannelBits). x ≡ channelOf (bigBits 40 v)) (ltb (wordBy t v) (2 ^ 32)) _ _
-      (λ h. sym (word-received (ltb-true (wordBy t v) (2 ^ 32) h))) (λ f. refl)
+      pick-cases (λ (x : ChannelBits). x ≡ channelOf (bigBits 40 v)) (ltb (wordByTable t v) (2 ^ 32)) _ _
+      (λ h. sym (word-received (ltb-true (wordByTable t v) (2 ^ 32) h))) (λ f. refl)
 
 -- ---- the tables that the functions give
 

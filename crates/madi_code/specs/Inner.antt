@@ -56,9 +56,9 @@ eightFours t v =
     + getD t (v / 2 ^ 15 % 32) 0 * 2 ^ 16 + getD t (v / 2 ^ 10 % 32) 0 * 2 ^ 20 + getD t (v / 2 ^ 5 % 32) 0 * 2 ^ 24 + getD t (v % 32) 0 * 2 ^ 28
 
 -- the word where all are data groups, else 2 ^ 32
-unfoldable pub wordBy : List ℕ → ℕ → ℕ
-wordBy t v = pick (ltb (eightSum t v) 128) (eightFours t v) (2 ^ 32)
+unfoldable pub wordByTable : List ℕ → ℕ → ℕ
+wordByTable t v = pick (ltb (eightSum t v) 128) (eightFours t v) (2 ^ 32)
 
 -- a channel by that word, and else by its groups
 unfoldable pub channelBy : List ℕ → ℕ → ChannelBits
-channelBy t v = pick (ltb (wordBy t v) (2 ^ 32)) (Word (wordBy t v)) (channelOf (bigBits 40 v))
+channelBy t v = pick (ltb (wordByTable t v) (2 ^ 32)) (Word (wordByTable t v)) (channelOf (bigBits 40 v))

@@ -7,7 +7,7 @@ ghost use lib.ListN.{take};
 ghost use Rattle.madi_code.specs.Frame.{counted, synced};
 ghost use Rattle.madi_code.specs.Groups.{groupCode, commandCodes, commandOf, groupOf};
 ghost use Rattle.madi_code.specs.Channels.{channelRow, channelOf};
-ghost use Rattle.madi_code.specs.Inner.{eightGroups, wordBy, channelBy, groupTable, meaningTable};
+ghost use Rattle.madi_code.specs.Inner.{eightGroups, wordByTable, channelBy, groupTable, meaningTable};
 
 mod tables;
 
@@ -186,7 +186,7 @@ pub fn meanings() -> [u8; 32]
 // The word of the lowest 40 bits of v by a table of meanings, the earliest bit highest; 2 ^ 32 where they are not all
 // data groups.
 pub fn word_by(table: &[u8; 32], v: u64) -> u64
-    ensures { λ r. ⌜ r ≡ wordBy (now (table .entry)) v ⌝ }
+    ensures { λ r. ⌜ r ≡ wordByTable (now (table .entry)) v ⌝ }
 {
     let a = wide(table[((v >> 35) % 32) as usize]);
     let b = wide(table[((v >> 30) % 32) as usize]);

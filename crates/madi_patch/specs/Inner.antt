@@ -5,7 +5,7 @@ use lib.ListN.{length}
 use Rattle.madi_patch.specs.Slot.{Panel}
 
 -- output slot o has an owner and a row, and each active slot an owner and a word
-pub record Lent (p : Panel) (o : ℕ) : Type 0 where
+pub record Reaches (p : Panel) (o : ℕ) : Type 0 where
   pub owned : o < length (p .outs)
   pub rowed : o < length (p .rows)
   pub owners : p .active ≤ length (p .ins)

@@ -9,7 +9,7 @@ ghost use Rattle.answer.specs.Said.{verdictSaid};
 ghost use Rattle.madi_patch.specs.Slot.{panel, verdictOctet, slotVerdict, slotOctet, slotWord};
 ghost use Rattle.madi_patch.specs.Patch.{asLong, patchAnswer, frameAfter, verdictsAfter};
 ghost use Rattle.madi_patch.specs.Leased.{leasedAnswer, leasedFrame, leasedVerdicts};
-ghost use Rattle.madi_patch.specs.Inner.{Lent, Long};
+ghost use Rattle.madi_patch.specs.Inner.{Reaches, Long};
 use answer::Verdict;
 
 // What became of an output slot's row.
@@ -41,7 +41,7 @@ fn judge(
     frame: &[u32],
     o: usize,
 ) -> SlotVerdict
-    requires { ⌜ Lent (panel active (now ins) (now outs) (now rows) (now frame)) o ⌝ }
+    requires { ⌜ Reaches (panel active (now ins) (now outs) (now rows) (now frame)) o ⌝ }
     ensures { λ r. ⌜ r ≡ slotVerdict (panel active (now (ins .entry)) (now (outs .entry)) (now (rows .entry)) (now (frame .entry))) o ⌝ }
 {
     if active <= o {
@@ -70,7 +70,7 @@ fn word(
     o: usize,
     v: SlotVerdict,
 ) -> u32
-    requires { ⌜ Lent (panel active (now ins) (now outs) (now rows) (now frame)) o ⌝ }
+    requires { ⌜ Reaches (panel active (now ins) (now outs) (now rows) (now frame)) o ⌝ }
     requires { ⌜ v ≡ slotVerdict (panel active (now ins) (now outs) (now rows) (now frame)) o ⌝ }
     ensures { λ r. ⌜ r ≡ slotWord (panel active (now (ins .entry)) (now (outs .entry)) (now (rows .entry)) (now (frame .entry))) o ⌝ }
 {

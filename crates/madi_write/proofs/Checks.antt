@@ -15,7 +15,7 @@ use Rattle.answer.proofs.Chains.{met, passing}
 use Rattle.subframe.specs.Body.{parityOf, evenBody}
 use Rattle.madi_code.specs.Frame.{counted, numbered, synced}
 use Rattle.madi_code.proofs.FrameLaws.{counted-le, synced-some}
-use Rattle.madi_write.specs.Writer.{needed, frameOctets, isList, wordDemands, writeDemands, frameWritten}
+use Rattle.madi_write.specs.Writer.{needed, frameOctets, isList, channelWordDemands, writeDemands, frameWritten}
 use Rattle.madi_write.specs.Inner.{Sound}
 
 not-not : (t : Bool) → not t ≡ false → t ≡ true
@@ -77,7 +77,7 @@ writable channels words commands level room m =
 
 -- ---- and where no word breaks a rule
 
-pub sound-met : (words : List ℕ) → Sound words → AllMet (wordDemands words)
+pub sound-met : (words : List ℕ) → Sound words → AllMet (channelWordDemands words)
 sound-met words sound =
     (λ i l h. ap not (sound i (omega arith) .0)) & (λ i l h. ap not (eq-eqb (getD words i 0 % 4) 0 (sound i (omega arith) .1))) & tt
 

@@ -12,7 +12,7 @@ ghost use Rattle.madi_code.specs.Frame.{numbered};
 ghost use Rattle.madi_code.specs.Groups.{commandCodes};
 ghost use Rattle.madi_code.specs.Channels.{channelRow};
 ghost use Rattle.madi_code.specs.Inner.{Sends};
-ghost use Rattle.madi_write.specs.Writer.{needed, frameOctets, isList, wordDemands, writeDemands, frameWritten};
+ghost use Rattle.madi_write.specs.Writer.{needed, frameOctets, isList, channelWordDemands, writeDemands, frameWritten};
 ghost use Rattle.madi_write.specs.Inner.{sentWord, commandsNumber, blockOf, Levels, Stored, Sound};
 use answer::Verdict;
 
@@ -134,7 +134,7 @@ fn faults(words: &[u32]) -> u32
 // The first word of odd parity, then the first with bit 0 or 1 set.
 fn find_fault(words: &[u32]) -> Verdict
     requires { ⌜ length (now words) ≤ 64 ⌝ }
-    ensures { λ r. ⌜ verdictSaid r ≡ provided (wordDemands (now (words .entry))) (accepted tt) ⌝ }
+    ensures { λ r. ⌜ verdictSaid r ≡ provided (channelWordDemands (now (words .entry))) (accepted tt) ⌝ }
 {
     let mut i = 0;
     while i < words.len() {
@@ -164,7 +164,7 @@ fn find_fault(words: &[u32]) -> Verdict
 // The same, at one stride where there is none.
 fn check_words(words: &[u32]) -> Verdict
     requires { ⌜ length (now words) ≤ 64 ⌝ }
-    ensures { λ r. ⌜ verdictSaid r ≡ provided (wordDemands (now (words .entry))) (accepted tt) ⌝ }
+    ensures { λ r. ⌜ verdictSaid r ≡ provided (channelWordDemands (now (words .entry))) (accepted tt) ⌝ }
 {
     if faults(words) == 0 {
         return Verdict::Accepted;

@@ -17,7 +17,7 @@ use Rattle.subframe.specs.Signed.{inRange}
 use Rattle.block.specs.Side.{sideLength}
 use Rattle.block.specs.Check.{outside}
 use Rattle.block.proofs.CheckLaws.{outside-range}
-use Rattle.talkback.specs.Talkback.{auxiliary, withVoice, undeclared, unfit, voiceOutside, useDemands, joinDemands, separateDemands, joinAnswer, separateAnswer}
+use Rattle.talkback.specs.Talkback.{auxiliary, withVoice, undeclared, unfit, voiceOutside, useDemands, voiceJoinDemands, separateDemands, voiceJoinAnswer, separateAnswer}
 use Rattle.talkback.specs.Inner.{unfitting, Programs, AllIn}
 
 -- ---- one search for each kind
@@ -93,10 +93,10 @@ pub record Joins (program voice : List ℤ) (side : List ℕ) (room : ℕ) (samp
   pub is : withVoice program voice ≡ samples
 
 pub joins : (program voice : List ℤ) (side : List ℕ) (room : ℕ) (samples : List ℤ)
-    → joinAnswer program voice side room ≡ accepted samples → Joins program voice side room samples
-unfolding joinAnswer
+    → voiceJoinAnswer program voice side room ≡ accepted samples → Joins program voice side room samples
+unfolding voiceJoinAnswer
 joins program voice side room samples e =
-    let m = met (withVoice program voice) (joinDemands program voice side room) e in
+    let m = met (withVoice program voice) (voiceJoinDemands program voice side room) e in
     let d = m .0 in
     record {
       program-long = eqb-true _ 384 (d .0);
@@ -144,10 +144,10 @@ module _ (samples : List ℤ) (side : List ℕ) (program voice : ℕ) where
 module _ (program voice : List ℤ) (side : List ℕ) (room : ℕ) where
   pub joining : length program ≡ 384 → length voice ≡ 128 → length side ≡ sideLength → room ≡ 384
       → ((channel : ℕ) → 0 ≤ channel → channel < 0 + 2 → undeclared side channel ≡ false) → Programs program → AllIn 12 128 voice
-      → joinAnswer program voice side room ≡ accepted (withVoice program voice)
-  unfolding joinAnswer unfit voiceOutside
+      → voiceJoinAnswer program voice side room ≡ accepted (withVoice program voice)
+  unfolding voiceJoinAnswer unfit voiceOutside
   joining np nv nt nr declared programs voices =
-      passing (accepted (withVoice program voice)) (joinDemands program voice side room)
+      passing (accepted (withVoice program voice)) (voiceJoinDemands program voice side room)
       (eq-eqb _ 384 np & eq-eqb _ 128 nv & eq-eqb _ sideLength nt & eq-eqb _ 384 nr & declared
       & (λ i l h. let f = programs i (omega arith) in
       ap₂ (λ (a b : Bool). a || not b) (outside-range program i ∙ ap not (f .0)) (eq-eqb (auxiliary (getD program i (pos 0))) 0 (f .1)))

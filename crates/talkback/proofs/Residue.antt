@@ -7,15 +7,15 @@ use lib.ListN.{length}
 use Rattle.answer.specs.Answer.{after, rewritten}
 use Rattle.answer.specs.Residue.{NoResidue}
 use Rattle.answer.proofs.Residues.{no-residue, no-residue-in}
-use Rattle.talkback.specs.Talkback.{withVoice, programOf, voiceOf, joinDemands, joinAnswer, separateAnswer}
+use Rattle.talkback.specs.Talkback.{withVoice, programOf, voiceOf, voiceJoinDemands, voiceJoinAnswer, separateAnswer}
 use Rattle.talkback.proofs.Blocks.{length-with, length-program, length-voice}
 
 pub join-leaves-none : (program voice : List ℤ) (side : List ℕ)
-    → NoResidue 384 (λ samples. joinAnswer program voice side (length samples))
-    (λ samples. rewritten (joinAnswer program voice side (length samples)) samples)
-unfolding joinAnswer
+    → NoResidue 384 (λ samples. voiceJoinAnswer program voice side (length samples))
+    (λ samples. rewritten (voiceJoinAnswer program voice side (length samples)) samples)
+unfolding voiceJoinAnswer
 join-leaves-none program voice side =
-    no-residue-in (λ new. new) 384 (joinDemands program voice side) (withVoice program voice) (λ room m. length-with program voice)
+    no-residue-in (λ new. new) 384 (voiceJoinDemands program voice side) (withVoice program voice) (λ room m. length-with program voice)
 
 -- of each buffer, whatever the length of the other
 module _ (samples : List ℤ) (side : List ℕ) (other : ℕ) where

@@ -13,19 +13,19 @@ use Rattle.subframe.specs.Signed.{inRange, codeOf}
 use Rattle.subframe.specs.Body.{bodyOf}
 use Rattle.subframe.proofs.SignedLaws.{code-lt, moved-up}
 use Rattle.subframe.proofs.BodyLaws.{body-sample}
-use Rattle.block.specs.Block.{sideAt, bodyAt}
+use Rattle.block.specs.Block.{sideAt, subframeBody}
 use Rattle.block.proofs.BlockLaws.{body-in, side-digit}
-use Rattle.talkback.specs.Talkback.{auxiliary, main, withVoice, programOf, voiceOf, joinAnswer, separateAnswer}
+use Rattle.talkback.specs.Talkback.{auxiliary, main, withVoice, programOf, voiceOf, voiceJoinAnswer, separateAnswer}
 use Rattle.talkback.proofs.Blocks.{length-with, length-program, length-voice, joined-in, joined-main, program-back, voice-back, separated-programs, separated-voice, joined-back}
 use Rattle.talkback.proofs.Demands.{Joins, joins, Separates, separates, separating, joining}
 
 -- ---- what joining accepts
 
 module _ (program voice : List ℤ) (side : List ℕ) (old samples : List ℤ)
-    (e : joinAnswer program voice side (length old) ≡ accepted samples) where
+    (e : voiceJoinAnswer program voice side (length old) ≡ accepted samples) where
   -- what the buffer then holds
   abbrev pub joined : List ℤ
-  joined = rewritten (joinAnswer program voice side (length old)) old
+  joined = rewritten (voiceJoinAnswer program voice side (length old)) old
 
   j : Joins program voice side (length old) samples
   j = joins program voice side (length old) samples e
@@ -60,14 +60,14 @@ module _ (program voice : List ℤ) (side : List ℕ) (old samples : List ℤ)
       )
 
   -- slots 8 to 27 of every body are those of the program's body
-  pub slots-kept : (i : ℕ) → i < 384 → bodyAt joined side i / 2 ^ 8 % 2 ^ 20 ≡ bodyAt program side i / 2 ^ 8 % 2 ^ 20
+  pub slots-kept : (i : ℕ) → i < 384 → subframeBody joined side i / 2 ^ 8 % 2 ^ 20 ≡ subframeBody program side i / 2 ^ 8 % 2 ^ 20
   slots-kept i h =
-      ap (λ (s : List ℤ). bodyAt s side i / 2 ^ 8 % 2 ^ 20) is-with
+      ap (λ (s : List ℤ). subframeBody s side i / 2 ^ 8 % 2 ^ 20) is-with
       ∙ slots (withVoice program voice) (joined-in program voice (j .programs) (j .voices) i h)
       ∙ joined-main program voice (j .programs) (j .voices) i h
       ∙ sym (slots program (j .programs i h .0))
     where
-      slots : (s : List ℤ) → inRange 24 (getD s i (pos 0)) ≡ true → bodyAt s side i / 2 ^ 8 % 2 ^ 20 ≡ main (getD s i (pos 0))
+      slots : (s : List ℤ) → inRange 24 (getD s i (pos 0)) ≡ true → subframeBody s side i / 2 ^ 8 % 2 ^ 20 ≡ main (getD s i (pos 0))
       slots s r =
           let z = codeOf 24 (getD s i (pos 0)) in
           let b = bodyOf z (sideAt side 0 i) (sideAt side 1 i) (sideAt side 2 i) in
@@ -88,14 +88,14 @@ module _ (samples : List ℤ) (side : List ℕ) (p v s : List ℤ)
   voice-separated = after voiceOf (separateAnswer samples side (length p) (length v)) v
 
   -- joining them gives back the samples
-  pub separated-joins : joinAnswer program-separated voice-separated side 384 ≡ accepted samples
+  pub separated-joins : voiceJoinAnswer program-separated voice-separated side 384 ≡ accepted samples
   separated-joins =
       let f = separates samples side (length p) (length v) s e in
       let d = f .0 in
       let a : separateAnswer samples side (length p) (length v) ≡ accepted samples = e ∙ ap accepted (sym (f .1)) in
       let ep : program-separated ≡ programOf samples = rw a (whole programOf samples p (length-program samples ∙ sym (d .program-room))) in
       let ev : voice-separated ≡ voiceOf samples = rw a (whole voiceOf samples v (length-voice samples ∙ sym (d .voice-room))) in
-      ap₂ (λ (x y : List ℤ). joinAnswer x y side 384) ep ev
+      ap₂ (λ (x y : List ℤ). voiceJoinAnswer x y side 384) ep ev
       ∙ joining (programOf samples) (voiceOf samples) side 384 (length-program samples) (length-voice samples) (d .side-long) refl (d .declared)
       (separated-programs samples (d .ranges)) (separated-voice samples (d .ranges))
       ∙ ap accepted (joined-back samples (d .ranges) (d .samples-long))

@@ -87,8 +87,8 @@ useDemands program voice side samples =
     ∷ findsNone 19 (undeclared side) 0 2
     ∷ []
 
-abbrev pub joinDemands : List ℤ → List ℤ → List ℕ → ℕ → List Demand
-joinDemands program voice side samples =
+abbrev pub voiceJoinDemands : List ℤ → List ℤ → List ℕ → ℕ → List Demand
+voiceJoinDemands program voice side samples =
     useDemands (length program) (length voice) side samples
     ++ (findsNone 3 (unfit program) 0 384 ∷ findsNone 3 (voiceOutside voice) 384 128 ∷ [])
 
@@ -97,8 +97,8 @@ separateDemands samples side program voice =
     useDemands program voice side (length samples) ++ (findsNone 3 (outside samples) 0 384 ∷ [])
 
 -- on acceptance the joined samples
-unfoldable pub joinAnswer : List ℤ → List ℤ → List ℕ → ℕ → Answer (List ℤ)
-joinAnswer program voice side samples = provided (joinDemands program voice side samples) (accepted (withVoice program voice))
+unfoldable pub voiceJoinAnswer : List ℤ → List ℤ → List ℕ → ℕ → Answer (List ℤ)
+voiceJoinAnswer program voice side samples = provided (voiceJoinDemands program voice side samples) (accepted (withVoice program voice))
 
 -- on acceptance the samples, whose program and voice fill the buffers
 unfoldable pub separateAnswer : List ℤ → List ℕ → ℕ → ℕ → Answer (List ℤ)

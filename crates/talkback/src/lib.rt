@@ -12,7 +12,7 @@ ghost use Rattle.answer.specs.Demand.{provided};
 ghost use Rattle.answer.specs.Said.{verdictSaid};
 ghost use Rattle.subframe.specs.Signed.{inRange, codeOf, signedOf};
 ghost use Rattle.block.specs.Side.{sideLength};
-ghost use Rattle.talkback.specs.Talkback.{auxiliary, main, sampleWith, voiceWith, subframeWith, withVoice, programOf, voiceOf, undeclared, useDemands, joinAnswer, separateAnswer};
+ghost use Rattle.talkback.specs.Talkback.{auxiliary, main, sampleWith, voiceWith, subframeWith, withVoice, programOf, voiceOf, undeclared, useDemands, voiceJoinAnswer, separateAnswer};
 ghost use Rattle.talkback.specs.Inner.{fitting, unfitting, Programs, AllIn, frameSet, threeSet};
 use answer::Verdict;
 use block::C;
@@ -202,8 +202,8 @@ fn join_block(program: &[i32], voice: &[i32], samples: &mut [i32])
 
 // Joins program and voice in a block whose status declares it. A refusal leaves the samples as they were.
 pub fn join(program: &[i32], voice: &[i32], side: &[u8], samples: &mut [i32]) -> Verdict
-    ensures { λ r. ⌜ verdictSaid r ≡ verdict (joinAnswer (now (program .entry)) (now (voice .entry)) (now (side .entry)) (length (now (samples .entry)))) ⌝ }
-    ensures { λ _. ⌜ now (samples .exit) ≡ rewritten (joinAnswer (now (program .entry)) (now (voice .entry)) (now (side .entry)) (length (now (samples .entry)))) (now (samples .entry)) ⌝ }
+    ensures { λ r. ⌜ verdictSaid r ≡ verdict (voiceJoinAnswer (now (program .entry)) (now (voice .entry)) (now (side .entry)) (length (now (samples .entry)))) ⌝ }
+    ensures { λ _. ⌜ now (samples .exit) ≡ rewritten (voiceJoinAnswer (now (program .entry)) (now (voice .entry)) (now (side .entry)) (length (now (samples .entry)))) (now (samples .entry)) ⌝ }
 {
     let found = check_use(program.len(), voice.len(), side, samples.len());
     if let Verdict::Refused { number, place } = found {

@@ -15,7 +15,7 @@ use Rattle.bits.specs.Pack.{symbols}
 use Rattle.bits.proofs.Firsts.{first-hit, first-next, first-miss}
 use Rattle.answer.specs.Answer.{Answer.accepted, Answer.refused}
 use Rattle.aes3_hunt.specs.Hunt.{fits, hunted, differs, total}
-use Rattle.aes3_hunt.specs.Inner.{differences}
+use Rattle.aes3_hunt.specs.Inner.{mismatches}
 use Rattle.aes3_hunt.proofs.Symbols.{seen-differing, seen-same}
 use Rattle.aes3_hunt.proofs.Cost.{NoneBefore, fits-same, misfit, cost-differs, cost-same}
 use Rattle.aes3_hunt.proofs.Compared.{total-most}
@@ -54,8 +54,8 @@ module _ (c : tie.At-loop Inv-loop μ-loop Inv-next μ-next) where
   r = symbols line
 
   -- what was compared is the candidate's
-  compared-here : c .before .compare .result ≡ differences r p
-  compared-here = c .before .compare .ensures ∙ ap (differences r) (sym (c .loop .inv .0))
+  compared-here : c .before .compare .result ≡ mismatches r p
+  compared-here = c .before .compare .ensures ∙ ap (mismatches r) (sym (c .loop .inv .0))
 
   -- a symbol differs: on with the next candidate
   passed : differs r p k ≡ true → onwards line end (p + 1) ≡ hunted line

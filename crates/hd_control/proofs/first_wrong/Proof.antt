@@ -11,7 +11,7 @@ use Rattle.anc.specs.declared.B8.{B8}
 use Rattle.anc.specs.Word.{rightBy, wrongAt}
 use Rattle.anc.proofs.Searched.{right-passes, wrong-fails}
 use Rattle.hd_control.specs.Control.{ruleOf}
-use Rattle.hd_control.specs.Inner.{firstWrong}
+use Rattle.hd_control.specs.Inner.{firstWrongByRule}
 use Rattle.hd_control.proofs.first_wrong.Statement.{statement}
 use Rattle.hd_control.proofs.first_wrong.Tie as tie
 
@@ -71,14 +71,14 @@ loop-again c =
     (right-passes ruleOf (words r) (3 + i r) (sym (tested r) ∙ c .if1 .taken)) (at r .loop .inv)
 
 returns : tie.Need-returns Inv-loop μ-loop
-unfolding firstWrong
+unfolding firstWrongByRule
 returns c =
     let r = c .before in
     left-hit (wrong (words r)) 14 (i r) (r .before .before .before .loop-test .taken)
     (wrong-fails ruleOf (words r) (3 + i r) (sym (tested r) ∙ c .if1 .left)) (at r .loop .inv)
 
 returns-2 : tie.Need-returns-2 Inv-loop μ-loop
-unfolding firstWrong
+unfolding firstWrongByRule
 returns-2 c =
     let p = c .before in
     left-miss (wrong (p .before .before .args .words .now)) 14 (p .loop .i) (c .loop-test .left) (p .loop .inv)

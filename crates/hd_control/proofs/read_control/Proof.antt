@@ -18,7 +18,7 @@ use Rattle.anc.specs.Enclosed.{sumStands}
 use Rattle.anc.proofs.Heads.{head-read, head-refused}
 use Rattle.anc.proofs.Searched.{wide-found}
 use Rattle.anc.proofs.Searched.{none-wide as no-wide}
-use Rattle.hd_control.specs.Control.{dids, dc, controlHead, ruleOf, controlIn}
+use Rattle.hd_control.specs.Control.{controlDids, controlDc, controlHead, ruleOf, controlIn}
 use Rattle.hd_control.specs.Read.{stateDemands, readAnswer}
 use Rattle.hd_control.specs.Inner.{headedRead}
 use Rattle.hd_control.proofs.ControlLaws.{group-in}
@@ -82,8 +82,8 @@ module _ (k : tie.After-group) where
   abbrev r : tie.After-read-head
   r = k .before .before
 
-  read : AllMet (headDemands (controlHead (ws r)) (ws r)) × (groupIn dids (getD (ws r) 3 0) ≡ k .group .given .0 .0)
-  read = head-read dids dc (ws r) (six r) (ap numberSaid (sym (k .group .given .1)) ∙ r .read-head .ensures)
+  read : AllMet (headDemands (controlHead (ws r)) (ws r)) × (groupIn controlDids (getD (ws r) 3 0) ≡ k .group .given .0 .0)
+  read = head-read controlDids controlDc (ws r) (six r) (ap numberSaid (sym (k .group .given .1)) ∙ r .read-head .ensures)
 
 read-headed-requires : tie.Need-read-headed-requires
 read-headed-requires c κs =
@@ -95,10 +95,10 @@ unfolding readAnswer
 returns-3 c =
     let k = c .before in
     let h = k .before .before in
-    let e : refused (k .number .given .0 .0) (k .number .given .0 .1 .0) ≡ headAnswer dids dc (ws h) =
+    let e : refused (k .number .given .0 .0) (k .number .given .0 .1 .0) ≡ headAnswer controlDids controlDc (ws h) =
     ap numberSaid (sym (k .number .given .1)) ∙ h .read-head .ensures in
     sym (stopped _ (later (eq-eqb _ 18 (long h)) (later (none-wide h) (extended
-    (extended (head-refused dids dc (ws h) (six h) e) (findsNone 14 (wrongAt ruleOf (ws h)) 3 14 ∷ asks 16 17 (sumStands 14 (ws h)) ∷ []))
+    (extended (head-refused controlDids controlDc (ws h) (six h) e) (findsNone 14 (wrongAt ruleOf (ws h)) 3 14 ∷ asks 16 17 (sumStands 14 (ws h)) ∷ []))
     (stateDemands (ws h))))))
 
 returns-4 : tie.Need-returns-4

@@ -14,7 +14,7 @@ use Rattle.anc.specs.Enclosed.{sumStands}
 use Rattle.anc.proofs.Searched.{counted-found, counted-none}
 use Rattle.anc.proofs.Enclosing.{sum-stands, sum-fails}
 use Rattle.hd_control.specs.Control.{ruleOf}
-use Rattle.hd_control.specs.Inner.{firstWrong, headedRead}
+use Rattle.hd_control.specs.Inner.{firstWrongByRule, headedRead}
 use Rattle.hd_control.proofs.read_headed.Statement.{statement}
 use Rattle.hd_control.proofs.read_headed.Tie as tie
 
@@ -24,7 +24,7 @@ module _ (e : tie.Else1) where
   ws = e .before .before .before .args .words .now
 
   worded : Met (findsNone 14 (wrongAt ruleOf ws) 3 14)
-  unfolding firstWrong
+  unfolding firstWrongByRule
   worded =
       counted-none (wrongAt ruleOf ws) 3 14 (e .before .first-wrong .result) (e .before .first-wrong .ensures) (e .if1 .left)
 
@@ -45,7 +45,7 @@ add-t7 : tie.Need-add-t7
 add-t7 c = search needs
 
 returns : tie.Need-returns
-unfolding headedRead firstWrong
+unfolding headedRead firstWrongByRule
 returns c =
     let k = c .before in
     sym (stopped _ (counted-found (wrongAt ruleOf (k .before .before .args .words .now)) 3 14 (k .first-wrong .result) (k .first-wrong .ensures)

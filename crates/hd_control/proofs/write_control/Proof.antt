@@ -13,8 +13,8 @@ use Rattle.answer.proofs.Residues.{shows-refusal, shows-acceptance}
 use Rattle.anc.specs.Enclosed.{wordsBy, enclosed}
 use Rattle.anc.specs.Inner.{laidOut}
 use Rattle.anc.proofs.Enclosing.{length-words, length-enclosed, laid-out}
-use Rattle.hd_control.specs.Control.{ruleOf, misused, reserved, controlValues, controlPacket}
-use Rattle.hd_control.specs.Write.{inRanges, writeAnswer}
+use Rattle.hd_control.specs.Control.{ruleOf, misused, rateReserved, controlValues, controlPacket}
+use Rattle.hd_control.specs.Write.{controlInRanges, writeAnswer}
 use Rattle.hd_control.specs.declared.Control.{Control}
 use Rattle.hd_control.proofs.ControlLaws.{ranges, fourteen, packet-size, packet-of}
 use Rattle.hd_control.proofs.write_control.Statement.{statement}
@@ -34,7 +34,7 @@ module _ (t : tie.Then2) where
   room : length old ≡ 18
   room = t .before .before .if1 .left
 
-  in-range : inRanges fields ≡ true
+  in-range : controlInRanges fields ≡ true
   in-range = sym (t .before .in-ranges .ensures) ∙ t .if2 .taken
 
 returns : tie.Need-returns

@@ -2,7 +2,7 @@
 -- nothing.
 use borrow.Author.Needs.{needs}
 use borrow.Author.Tests.{lt-ltb, le-ltb}
-use Rattle.madi_code.specs.Inner.{eightSum, eightFours, wordBy}
+use Rattle.madi_code.specs.Inner.{eightSum, eightFours, wordByTable}
 use Rattle.madi_code.proofs.word_by.Statement.{statement}
 use Rattle.madi_code.proofs.word_by.Tie as tie
 
@@ -118,7 +118,7 @@ add-result-7 : tie.Need-add-result-7
 add-result-7 c = search needs
 
 returns : tie.Need-returns
-unfolding wordBy eightSum eightFours
+unfolding wordByTable eightSum eightFours
 returns c =
     rw (
       ← c .before .before .before .before .before .before .before .before .before .before .before .before .before .before .before .wide .ensures .0,
@@ -133,7 +133,7 @@ returns c =
     )
 
 returns-2 : tie.Need-returns-2
-unfolding wordBy eightSum eightFours
+unfolding wordByTable eightSum eightFours
 returns-2 c =
     rw (
       ← c .before .before .before .before .before .before .before .before .before .before .before .before .before .before .before .wide .ensures .0,

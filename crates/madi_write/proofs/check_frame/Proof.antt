@@ -12,7 +12,7 @@ use Rattle.answer.specs.Demand.Stops.{fails, later}
 use Rattle.answer.proofs.Chains.{stopped, passes-on}
 use Rattle.madi_code.specs.Frame.{counted}
 use Rattle.madi_code.proofs.FrameLaws.{counted-le}
-use Rattle.madi_write.specs.Writer.{isList, argumentDemands, wordDemands}
+use Rattle.madi_write.specs.Writer.{isList, argumentDemands, channelWordDemands}
 use Rattle.madi_write.proofs.Checks.{list-of}
 use Rattle.madi_write.proofs.check_frame.Statement.{statement}
 use Rattle.madi_write.proofs.check_frame.Tie as tie
@@ -60,7 +60,7 @@ returns c =
     counts t & le-leb _ _ (f .before .before .before .if2 .taken) & le-leb _ _ (f .before .before .if3 .taken) & lists f & le-leb _ _ (c .before .before .if5 .taken)
     & le-leb _ _ (c .before .if6 .taken) & tt in
     c .check-words .ensures
-    ∙ sym (passes-on (accepted tt) (argumentDemands (a .channels) (length (a .words .now)) (a .commands .now) (a .level) (a .room)) (wordDemands (a .words .now)) met)
+    ∙ sym (passes-on (accepted tt) (argumentDemands (a .channels) (length (a .words .now)) (a .commands .now) (a .level) (a .room)) (channelWordDemands (a .words .now)) met)
 
 returns-2 : tie.Need-returns-2
 returns-2 c =

@@ -3,7 +3,7 @@ use mathlib.Core.Path.{sym}
 use borrow.Author.Needs.{needs}
 use Rattle.answer.specs.Answer.{Answer.accepted}
 use Rattle.answer.proofs.Chains.{passing}
-use Rattle.madi_write.specs.Writer.{wordDemands}
+use Rattle.madi_write.specs.Writer.{channelWordDemands}
 use Rattle.madi_write.proofs.Checks.{sound-met}
 use Rattle.madi_write.proofs.check_words.Statement.{statement}
 use Rattle.madi_write.proofs.check_words.Tie as tie
@@ -14,7 +14,7 @@ faults-requires c κs = search needs
 returns : tie.Need-returns
 returns c =
     let w = c .before .before .before .args .words .now in
-    sym (passing (accepted tt) (wordDemands w) (sound-met w (c .before .faults .ensures (c .if1 .taken))))
+    sym (passing (accepted tt) (channelWordDemands w) (sound-met w (c .before .faults .ensures (c .if1 .taken))))
 
 find-fault-requires : tie.Need-find-fault-requires
 find-fault-requires c κs = search needs

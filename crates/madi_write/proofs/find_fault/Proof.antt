@@ -14,7 +14,7 @@ use Rattle.answer.specs.Demand.{_&_}
 use Rattle.answer.specs.Demand.Stops.{found, later}
 use Rattle.answer.proofs.Chains.{passing, stopped}
 use Rattle.subframe.specs.Body.{evenBody}
-use Rattle.madi_write.specs.Writer.{wordDemands}
+use Rattle.madi_write.specs.Writer.{channelWordDemands}
 use Rattle.madi_write.proofs.find_fault.Statement.{statement}
 use Rattle.madi_write.proofs.find_fault.Tie as tie
 
@@ -96,7 +96,7 @@ returns-3 c =
     let m = c .before in
     let l = m .before .before .loop in
     let w = m .before .before .before .before .args .words .now in
-    sym (passing (accepted tt) (wordDemands w) ((λ j a b. ap not (l .inv .1 j (omega arith))) & (λ j a b. ap not (m .loop2 .inv .1 j (omega arith))) & tt))
+    sym (passing (accepted tt) (channelWordDemands w) ((λ j a b. ap not (l .inv .1 j (omega arith))) & (λ j a b. ap not (m .loop2 .inv .1 j (omega arith))) & tt))
 
 pub find-fault-spec : {M : Type 1} → statement M
 find-fault-spec =

@@ -14,7 +14,7 @@ use Rattle.answer.specs.Demand.Stops.{later}
 use Rattle.answer.specs.Said.{verdictSaid}
 use Rattle.answer.proofs.Chains.{met, stops, extended, found-from, none-from, found-here, none-here, further, all-of}
 use Rattle.answer.proofs.Residues.{shows-refusal, shows-acceptance}
-use Rattle.talkback.specs.Talkback.{unfit, voiceOutside, useDemands, joinAnswer}
+use Rattle.talkback.specs.Talkback.{unfit, voiceOutside, useDemands, voiceJoinAnswer}
 use Rattle.talkback.specs.Inner.{unfitting}
 use Rattle.talkback.proofs.Blocks.{length-with}
 use Rattle.talkback.proofs.Demands.{unfit-is, voice-is, fit-programs, fit-voice}
@@ -84,7 +84,7 @@ enum-known-found : tie.Need-enum-known-found
 enum-known-found c = search needs
 
 returns : tie.Need-returns
-unfolding joinAnswer
+unfolding voiceJoinAnswer
 returns c =
     let k = c .before .before .before in
     let found = c .before .found .given in
@@ -101,7 +101,7 @@ cast-t14 : tie.Need-cast-t14
 cast-t14 c = search needs
 
 returns-2 : tie.Need-returns-2
-unfolding joinAnswer
+unfolding voiceJoinAnswer
 returns-2 c =
     let f = c .before in
     let t = f .before in
@@ -121,7 +121,7 @@ add-t16 : tie.Need-add-t16
 add-t16 c = search needs
 
 returns-3 : tie.Need-returns-3
-unfolding joinAnswer
+unfolding voiceJoinAnswer
 returns-3 c =
     let f = c .before in
     let o = f .before in
@@ -148,7 +148,7 @@ same-length : tie.Need-same-length
 same-length c = search needs
 
 returns-4 : tie.Need-returns-4
-unfolding joinAnswer
+unfolding voiceJoinAnswer
 returns-4 c =
     let o = c .before .before .before in
     let t = told (first o) in

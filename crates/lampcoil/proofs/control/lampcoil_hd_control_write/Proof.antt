@@ -7,7 +7,7 @@ use mir.Syntax.{w32}
 use mir.Val.{toZ, ofZ}
 use mir.Facts.{toZ-ofZ}
 use Rattle.answer.specs.Answer.{verdict}
-use Rattle.hd_control.specs.Write.{writeAnswer, wordsWritten}
+use Rattle.hd_control.specs.Write.{writeAnswer, controlWritten}
 use Rattle.hd_control.specs.declared.Control.{Control}
 use Rattle.lampcoil.specs.Told.{toldVerdict}
 use Rattle.lampcoil.specs.Control.{controlLent}
@@ -40,7 +40,7 @@ returns c =
     let old = s .args .words .now in (
       c .verdict .ensures
           ∙ ap toldVerdict (w .write-control .ensures .0 ∙ ap (λ (f : Control). verdict (writeAnswer f (length old))) (back s)),
-      w .write-control .ensures .1 ∙ ap (λ (f : Control). wordsWritten f old) (back s),
+      w .write-control .ensures .1 ∙ ap (λ (f : Control). controlWritten f old) (back s),
     )
 
 pub lampcoil-hd-control-write-spec : {M : Type 1} → statement M
