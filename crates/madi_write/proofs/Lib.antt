@@ -1,4 +1,5 @@
 pub mod Frames
 pub mod Blocks
+pub mod Turns
 pub mod Checks
 pub mod Residue

@@ -36,6 +36,10 @@ Stored j y n at-entry at-exit =
     (new old : List ℕ) → j + n ≤ length new → j + n ≤ length old → ((i : ℕ) → i < n → getD new (j + i) 0 ≡ y / 2 ^ (32 - 8 * i) % 256)
     → at-entry ≡ take j new ++ drop j old → at-exit ≡ take (j + n) new ++ drop (j + n) old
 
+-- 40 bits x after a level are laid as block b, and r is the level that they leave
+abbrev pub Laid : ℕ → ℕ → ℕ → ℕ → List ℕ → List ℕ → Type 0
+Laid b last x r at-entry at-exit = (y : ℕ) × Levels (last * 2 ^ 40 + x) y × (r ≡ y % 2) × Stored (5 * b) y 5 at-entry at-exit
+
 -- no word breaks a rule
 abbrev pub Sound : List ℕ → Type 0
 Sound words = (i : ℕ) → i < length words → (evenBody (getD words i 0) ≡ true) × (getD words i 0 % 4 ≡ 0)

@@ -2,18 +2,15 @@
 ghost use mathlib.Core.Path.{_≡_};
 ghost use mathlib.Core.Bool.{true};
 ghost use mathlib.Core.List.{_++_};
-ghost use Prim.Native.Nat.{ℕ, _+_, _*_, _%_, _<_, _≤_};
+ghost use Prim.Native.Nat.{ℕ, _+_, _*_, _%_, _^_, _<_, _≤_};
 ghost use lib.ListN.{length, getD, drop};
-ghost use Rattle.bits.specs.Row.{big};
 ghost use Rattle.answer.specs.Answer.{accepted, verdict, rewritten};
 ghost use Rattle.answer.specs.Demand.{provided};
 ghost use Rattle.answer.specs.Said.{verdictSaid};
 ghost use Rattle.madi_code.specs.Frame.{numbered};
 ghost use Rattle.madi_code.specs.Groups.{commandCodes};
-ghost use Rattle.madi_code.specs.Channels.{channelRow};
-ghost use Rattle.madi_code.specs.Inner.{Sends};
 ghost use Rattle.madi_write.specs.Writer.{needed, frameOctets, isList, channelWordDemands, writeDemands, frameWritten};
-ghost use Rattle.madi_write.specs.Inner.{sentWord, commandsNumber, blockOf, Levels, Stored, Sound};
+ghost use Rattle.madi_write.specs.Inner.{sentWord, commandsNumber, Levels, Stored, Laid, Sound};
 use answer::Verdict;
 
 // The word of channel b as it is sent: the given ones are active, and bit 0 is set on channel 0; the others are all
@@ -45,29 +42,6 @@ fn commands_from(codes: &[u16; 16], commands: &[u8], i: usize, k: usize) -> u64
     x
 }
 
-// The 40 bits of a frame from bit 40 b on: a channel, or four commands. The tables are those of groups and of commands,
-// and `idle` an inactive channel.
-fn block(
-    table: &[u8; 16],
-    codes: &[u16; 16],
-    idle: u64,
-    channels: usize,
-    words: &[u32],
-    commands: &[u8],
-    b: usize,
-) -> u64
-    requires { ⌜ Sends (now table) × (now codes ≡ commandCodes) × (idle ≡ big (channelRow 0)) × (channels ≤ 64) × (length (now words) ≤ channels) × ((k : ℕ) → getD (now words) k 0 % 4 ≡ 0) × (length (now commands) ≤ 255) × (numbered (now commands) ≡ true) × (40 * b + 40 ≤ 40 * channels + 10 * length (now commands)) ⌝ }
-    ensures { λ r. ⌜ r ≡ blockOf channels (now (words .entry)) (now (commands .entry)) b ⌝ }
-{
-    if b < words.len() {
-        return madi_code::bits_by(table, sent_word(words, b));
-    }
-    if b < channels {
-        return idle;
-    }
-    commands_from(codes, commands, 4 * (b - channels), 4)
-}
-
 // The levels whose changes are the bits of x: each bit is changed by all before it, by doubling.
 fn levels_after(x: u64) -> u64
     ensures { λ r. ⌜ Levels x r ⌝ }
@@ -92,7 +66,18 @@ fn store(line: &mut [u8], j: usize, y: u64, n: usize)
     }
 }
 
-// The octets of a frame, into the front of line: blocks of five octets, then the commands that are left.
+// 40 bits after a level, into five octets of line from octet 5 b on; gives the level that they leave.
+fn lay(line: &mut [u8], b: usize, last: u64, x: u64) -> u64
+    requires { ⌜ (b < 2 ^ 8) × (last < 2) × (x < 2 ^ 40) × (5 * b + 5 ≤ length (now line)) ⌝ }
+    ensures { λ r. ⌜ Laid b last x r (now (line .entry)) (now (line .exit)) ⌝ }
+{
+    let y = levels_after(last * 0x100_0000_0000 + x);
+    store(line, 5 * b, y, 5);
+    y % 2
+}
+
+// The octets of a frame, into the front of line: blocks of five octets, the active channels, the inactive ones and then
+// commands by fours, each in a loop of its own; then the commands that are left.
 fn fill(channels: usize, words: &[u32], commands: &[u8], level: u32, line: &mut [u8])
     requires { ⌜ (level ≤ 1) × (channels ≤ 64) × (length (now words) ≤ channels) × (length (now commands) ≤ 255) × (numbered (now commands) ≡ true) × ((k : ℕ) → getD (now words) k 0 % 4 ≡ 0) × (needed channels (length (now commands)) ≤ length (now line)) ⌝ }
     ensures { λ r. ⌜ now (line .exit) ≡ frameOctets channels (now (words .entry)) (now (commands .entry)) level ++ drop (needed channels (length (now (commands .entry)))) (now (line .entry)) ⌝ }
@@ -104,11 +89,18 @@ fn fill(channels: usize, words: &[u32], commands: &[u8], level: u32, line: &mut 
     let whole = channels + fours;
     let mut last = level as u64;
     let mut b: usize = 0;
+    while b < words.len() {
+        let x = madi_code::bits_by(&table, sent_word(words, b));
+        last = lay(line, b, last, x);
+        b += 1;
+    }
+    while b < channels {
+        last = lay(line, b, last, idle);
+        b += 1;
+    }
     while b < whole {
-        let x = block(&table, &codes, idle, channels, words, commands, b);
-        let y = levels_after(last * 0x100_0000_0000 + x);
-        store(line, 5 * b, y, 5);
-        last = y % 2;
+        let x = commands_from(&codes, commands, 4 * (b - channels), 4);
+        last = lay(line, b, last, x);
         b += 1;
     }
     let k = commands.len() % 4;
@@ -172,7 +164,8 @@ fn check_words(words: &[u32]) -> Verdict
     find_fault(words)
 }
 
-// Whether these are 1 to 255 commands, none above 15, and at least one of them 0.
+// Whether these are 1 to 255 commands, none above 15, and at least one of them 0. What is 1 in any is gathered, with no
+// branch on a command.
 fn is_list(commands: &[u8]) -> bool
     ensures { λ r. ⌜ r ≡ isList (now (commands .entry)) ⌝ }
 {
@@ -182,12 +175,14 @@ fn is_list(commands: &[u8]) -> bool
     if 255 < commands.len() {
         return false;
     }
+    let mut any: u8 = 0;
     let mut i = 0;
     while i < commands.len() {
-        if 15 < commands[i] {
-            return false;
-        }
+        any = any | commands[i];
         i += 1;
+    }
+    if 15 < any {
+        return false;
     }
     madi_code::has_sync(commands, commands.len())
 }

@@ -1,4 +1,4 @@
--- `madi_write::is_list` meets its contract: no command passed is above 15. Assumes nothing.
+-- `madi_write::is_list` meets its contract: what was gathered is above 15 exactly if some command is. Assumes nothing.
 use mathlib.Core.Path.{_≡_, refl, ap, subst, _∙_}
 use mathlib.Core.Logic.{⊎-elim}
 use mathlib.Core.Bool.{Bool, true, false}
@@ -6,6 +6,7 @@ use Prim.Native.Nat.{ℕ, _-_, _≤_, _<_}
 use native.Mathlib.Omega.{arith}
 use borrow.Author.Needs.{needs}
 use borrow.Author.Tests.{le-leb, lt-leb}
+use lib.Bits.{bitOr, or-lt, or-add-and, and-le-l, and-le-r}
 use lib.ListN.{length, getD}
 use lib.Seq.{take-length}
 use Rattle.bits.proofs.Tests.{order}
@@ -16,14 +17,21 @@ use Rattle.madi_write.proofs.is_list.Statement.{statement}
 use Rattle.madi_write.proofs.is_list.Tie as tie
 
 abbrev Inv-loop : tie.InvT-loop
-Inv-loop commands i₀ i = (i ≤ length commands) × ((k : ℕ) → k < i → getD commands k 0 < 16)
+Inv-loop commands any₀ i₀ any i =
+    (i ≤ length commands) × ((k : ℕ) → k < i → getD commands k 0 ≤ any) × (numbered commands ≡ true → any < 16)
 
 abbrev μ-loop : tie.MeasureT-loop
-μ-loop commands i₀ i = length commands - i
+μ-loop commands any₀ i₀ any i = length commands - i
 
 not-so : (t : Bool) → (t ≡ true → ⊥) → t ≡ false
 not-so true f = absurd (f refl)
 not-so false f = refl
+
+left-in : (a b : ℕ) → a ≤ bitOr a b
+left-in a b = omega (arith, or-add-and a b, and-le-r a b)
+
+right-in : (a b : ℕ) → b ≤ bitOr a b
+right-in a b = omega (arith, or-add-and a b, and-le-l a b)
 
 returns : tie.Need-returns Inv-loop μ-loop
 unfolding isList
@@ -34,22 +42,10 @@ unfolding isList
 returns-2 c = rw (le-leb 1 _ (c .before .if1 .left), lt-leb _ 255 (c .if2 .taken))
 
 loop-holds : tie.Need-loop-holds Inv-loop μ-loop
-loop-holds c = (omega arith, λ k h. absurd (omega arith))
+loop-holds c = (omega arith, λ k h. absurd (omega arith), λ q. omega arith)
 
-shared-slice-read-if3 : tie.Need-shared-slice-read-if3 Inv-loop μ-loop
-shared-slice-read-if3 c = search needs
-
-returns-3 : tie.Need-returns-3 Inv-loop μ-loop
-unfolding isList
-returns-3 c =
-    let l = c .before .before .before in
-    let e = l .before in
-    let cs = e .before .before .before .args .commands .now in
-    rw (
-      le-leb 1 _ (e .before .if1 .left),
-      le-leb _ 255 (e .if2 .left),
-      not-so (numbered cs) (λ q. absurd (omega (arith, c .if3 .taken, numbered-at cs q (l .loop .i) (omega arith)))),
-    )
+shared-slice-read-any : tie.Need-shared-slice-read-any Inv-loop μ-loop
+shared-slice-read-any c = search needs
 
 add-i : tie.Need-add-i Inv-loop μ-loop
 add-i c = search needs
@@ -59,12 +55,27 @@ loop-less c = search needs
 
 loop-again : tie.Need-loop-again Inv-loop μ-loop
 loop-again c =
-    let l = c .before .before .before in
+    let l = c .before .before in
     let cs = l .before .before .before .before .args .commands .now in
-    let i = l .loop .i in (
+    let i = l .loop .i in
+    let any = l .loop .any in
+    let x = getD cs i 0 in (
       omega arith,
-      λ k h. ⊎-elim (λ (q : i ≤ k). let s : i ≡ k = omega arith in let t : getD cs i 0 < 16 = omega (arith, c .if3 .left) in
-          subst (λ (j : ℕ). getD cs j 0 < 16) s t) (λ (q : k < i). l .loop .inv .1 k q) (order i k),
+      λ k h. ⊎-elim (λ (q : i ≤ k). let s : i ≡ k = omega arith in subst (λ (j : ℕ). getD cs j 0 ≤ bitOr any x) s (right-in any x))
+          (λ (q : k < i). omega (arith, l .loop .inv .1 k q, left-in any x)) (order i k),
+      λ q. or-lt 4 any x (l .loop .inv .2 q) (numbered-at cs q i (omega arith)),
+    )
+
+returns-3 : tie.Need-returns-3 Inv-loop μ-loop
+unfolding isList
+returns-3 c =
+    let l = c .before .before in
+    let e = l .before in
+    let cs = e .before .before .before .args .commands .now in
+    rw (
+      le-leb 1 _ (e .before .if1 .left),
+      le-leb _ 255 (e .if2 .left),
+      not-so (numbered cs) (λ q. absurd (omega (arith, c .if3 .taken, l .loop .inv .2 q))),
     )
 
 has-sync-requires : tie.Need-has-sync-requires Inv-loop μ-loop
@@ -73,13 +84,13 @@ has-sync-requires c κs = search needs
 returns-4 : tie.Need-returns-4 Inv-loop μ-loop
 unfolding isList
 returns-4 c =
-    let l = c .before .before in
+    let l = c .before .before .before in
     let e = l .before in
     let cs = e .before .before .before .args .commands .now in
     rw (
       le-leb 1 _ (e .before .if1 .left),
       le-leb _ 255 (e .if2 .left),
-      numbered-all cs (λ k h. l .loop .inv .1 k (omega arith)),
+      numbered-all cs (λ k h. omega (arith, l .loop .inv .1 k (omega arith), c .before .if3 .left)),
     )
     (c .has-sync .ensures ∙ ap synced (take-length cs))
 
@@ -92,10 +103,10 @@ is-list-spec =
     returns
     returns-2
     loop-holds
-    shared-slice-read-if3
-    returns-3
+    shared-slice-read-any
     add-i
     loop-less
     loop-again
+    returns-3
     has-sync-requires
     returns-4)
