@@ -196,8 +196,7 @@ fn some_fault(side: &[u8], j: usize) -> u32
     1
 }
 
-// How many sixteens of subframes have an E that is set: counted as the samples out of range are, since mostly there is
-// none.
+// How many sixteens of subframes have an E that is set: counting all needs no branch on one, and mostly there is none.
 fn faults_count(side: &[u8]) -> u32
     requires { ⌜ length (now side) ≡ sideLength ⌝ }
     ensures { λ r. ⌜ r ≡ count (listed 0 24 (someFault (now (side .entry)))) ⌝ }
