@@ -6,8 +6,8 @@ use lib.IntN.{ℤ, pos, natAbs}
 use lib.Signed.{mag}
 use Rattle.levels.specs.Lines.{smallestLine, largestLine, sumLine, endsLine, most}
 use Rattle.levels.specs.Sheets.{ofSamples, ofSide}
-use Rattle.levels.specs.declared.Figures.{Figures}
-use Rattle.levels.specs.declared.Lines.{Lines}
+use Rattle.levels.specs.declared.figures.Figures.{Figures}
+use Rattle.levels.specs.declared.one_block.Lines.{Lines}
 
 -- what one pass over samples gives
 abbrev pub figuresOf : List ℤ → Figures

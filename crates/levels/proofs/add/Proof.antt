@@ -18,7 +18,7 @@ use Rattle.levels.specs.Lines.{sheetSound, sheetJoined}
 use Rattle.levels.specs.Sheets.{Block, sheetOf}
 use Rattle.levels.specs.Calls.{Fit, asBlock, addAnswer}
 use Rattle.levels.specs.Inner.{blockLines}
-use Rattle.levels.specs.declared.Figures.{Figures}
+use Rattle.levels.specs.declared.figures.Figures.{Figures}
 use Rattle.levels.proofs.Blocks.{sheet-one-sound}
 use Rattle.levels.proofs.Folds.{block-laid}
 use Rattle.levels.proofs.Places.{length-joined, length-sheet}
