@@ -1,4 +1,4 @@
--- `madi_read::bits_at` meets its contract: the levels against the levels one place earlier. Assumes nothing.
+-- `madi_read::line_bits::bits_at` meets its contract: the levels against the levels one place earlier. Assumes nothing.
 use native.Mathlib.Omega.{arith}
 use borrow.Author.Needs.{needs}
 use lib.Pow.{pow-pos}
@@ -7,8 +7,8 @@ use Rattle.bits.specs.Pack.{symbols}
 use Rattle.bits.proofs.Windows.{one-shl}
 use Rattle.bits.proofs.Packing.{length-chain, highest}
 use Rattle.line.proofs.NrziLaws.{changes-window}
-use Rattle.madi_read.proofs.bits_at.Statement.{statement}
-use Rattle.madi_read.proofs.bits_at.Tie as tie
+use Rattle.madi_read.proofs.line_bits.bits_at.Statement.{statement}
+use Rattle.madi_read.proofs.line_bits.bits_at.Tie as tie
 
 levels-at-requires : tie.Need-levels-at-requires
 levels-at-requires c κs = search needs

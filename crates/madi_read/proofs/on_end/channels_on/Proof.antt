@@ -1,4 +1,4 @@
--- `madi_read::channels_on` meets its contract: each turn is a piece of the definition's reading. Assumes nothing.
+-- `madi_read::on_end::channels_on` meets its contract: each turn is a piece of the definition's reading. Assumes nothing.
 use mathlib.Core.Path.{_≡_, sym, ap, subst, _∙_}
 use mathlib.Core.List.{List}
 use Prim.Native.Nat.{ℕ, _+_, _-_, _≤_, _<_}
@@ -13,8 +13,8 @@ use Rattle.madi_read.specs.Reader.{carried, readOn}
 use Rattle.madi_read.specs.Inner.{sofar, Plain, Reached}
 use Rattle.madi_read.proofs.Carrying.{length-carried}
 use Rattle.madi_read.proofs.Onward.{channel-on}
-use Rattle.madi_read.proofs.channels_on.Statement.{statement}
-use Rattle.madi_read.proofs.channels_on.Tie as tie
+use Rattle.madi_read.proofs.on_end.channels_on.Statement.{statement}
+use Rattle.madi_read.proofs.on_end.channels_on.Tie as tie
 
 -- what is promised of the count r and of what is held then
 abbrev Gone : List ℕ → ℕ → ℕ → ℕ → ℕ → ℕ → ℕ → List ℕ → ℕ → List ℕ → Type 0

@@ -1,9 +1,9 @@
--- `madi_read::end_of` meets its contract: the tests are the definition's. Assumes nothing.
+-- `madi_read::at_boundary::end_of` meets its contract: the tests are the definition's. Assumes nothing.
 use mathlib.Core.Path.{sym, _∙_}
 use borrow.Author.Needs.{needs}
 use borrow.Author.Tests.{eq-eqb, ne-eqb}
-use Rattle.madi_read.proofs.end_of.Statement.{statement}
-use Rattle.madi_read.proofs.end_of.Tie as tie
+use Rattle.madi_read.proofs.at_boundary.end_of.Statement.{statement}
+use Rattle.madi_read.proofs.at_boundary.end_of.Tie as tie
 
 has-sync-requires : tie.Need-has-sync-requires
 has-sync-requires c κs = search needs

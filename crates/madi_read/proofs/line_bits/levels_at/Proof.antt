@@ -1,4 +1,4 @@
--- `madi_read::levels_at` meets its contract: at the start the given level, later the level on the line. Assumes
+-- `madi_read::line_bits::levels_at` meets its contract: at the start the given level, later the level on the line. Assumes
 -- nothing.
 use mathlib.Core.Path.{_≡_, sym, ap, ap₂, _∙_}
 use mathlib.Core.List.{List, _∷_}
@@ -14,8 +14,8 @@ use Rattle.bits.proofs.Windows.{window-lt}
 use Rattle.line.specs.Load.{loaded}
 use Rattle.line.proofs.LoadLaws.{load-window}
 use Rattle.line.proofs.NrziLaws.{before-first, before-later}
-use Rattle.madi_read.proofs.levels_at.Statement.{statement}
-use Rattle.madi_read.proofs.levels_at.Tie as tie
+use Rattle.madi_read.proofs.line_bits.levels_at.Statement.{statement}
+use Rattle.madi_read.proofs.line_bits.levels_at.Tie as tie
 
 first-levels : (line : List ℕ) (level n v : ℕ) → level ≤ 1 → n ≤ 40 → v ≡ loaded line 0 n
     → level * 2 ^ n % 2 ^ 64 + v ≡ window (odd level ∷ symbols line) 0 (n + 1)

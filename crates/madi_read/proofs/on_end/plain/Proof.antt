@@ -1,4 +1,4 @@
--- `madi_read::plain` meets its contract: the table gives the word of the 40 bits. Assumes nothing.
+-- `madi_read::on_end::plain` meets its contract: the table gives the word of the 40 bits. Assumes nothing.
 use mathlib.Core.Path.{_≡_, sym, ap, _∙_}
 use Prim.Native.Nat.{_%_, _^_, _<_}
 use native.Mathlib.Omega.{arith}
@@ -8,8 +8,8 @@ use Rattle.madi_code.specs.Channels.{channelOf}
 use Rattle.madi_code.specs.declared.ChannelBits.the-variants.{Word}
 use Rattle.madi_code.proofs.TableLaws.{word-received}
 use Rattle.madi_read.proofs.Carrying.{forty}
-use Rattle.madi_read.proofs.plain.Statement.{statement}
-use Rattle.madi_read.proofs.plain.Tie as tie
+use Rattle.madi_read.proofs.on_end.plain.Statement.{statement}
+use Rattle.madi_read.proofs.on_end.plain.Tie as tie
 
 bits-at-requires : tie.Need-bits-at-requires
 bits-at-requires c κs = search needs

@@ -1,7 +1,7 @@
--- `madi_read::active_right` meets its contract: the tests are the definition's. Assumes nothing.
+-- `madi_read::at_boundary::active_right` meets its contract: the tests are the definition's. Assumes nothing.
 use borrow.Author.Tests.{eq-eqb, ne-eqb}
-use Rattle.madi_read.proofs.active_right.Statement.{statement}
-use Rattle.madi_read.proofs.active_right.Tie as tie
+use Rattle.madi_read.proofs.at_boundary.active_right.Statement.{statement}
+use Rattle.madi_read.proofs.at_boundary.active_right.Tie as tie
 
 returns : tie.Need-returns
 returns c = rw (eq-eqb _ _ (c .if1 .taken))

@@ -1,8 +1,8 @@
--- `madi_read::word_piece` meets its contract: the test is the definition's. Assumes nothing.
+-- `madi_read::at_boundary::word_piece` meets its contract: the test is the definition's. Assumes nothing.
 use borrow.Author.Needs.{needs}
 use borrow.Author.Tests.{eq-eqb, ne-eqb}
-use Rattle.madi_read.proofs.word_piece.Statement.{statement}
-use Rattle.madi_read.proofs.word_piece.Tie as tie
+use Rattle.madi_read.proofs.at_boundary.word_piece.Statement.{statement}
+use Rattle.madi_read.proofs.at_boundary.word_piece.Tie as tie
 
 returns : tie.Need-returns
 returns c = rw (eq-eqb _ _ (c .if1 .taken))

@@ -1,4 +1,4 @@
--- `madi_read::no_word` meets its contract: what the groups are, where a channel is due. Assumes nothing.
+-- `madi_read::at_boundary::no_word` meets its contract: what the groups are, where a channel is due. Assumes nothing.
 use mathlib.Core.Path.{sym, _∙_}
 use Prim.Native.Nat.{_<_}
 use native.Mathlib.Omega.{arith}
@@ -6,8 +6,8 @@ use borrow.Author.Needs.{needs}
 use borrow.Author.Tests.{eq-eqb, ne-eqb}
 use Rattle.bits.specs.Row.{bigBits}
 use Rattle.madi_code.proofs.ChannelLaws.{broken-lt}
-use Rattle.madi_read.proofs.no_word.Statement.{statement}
-use Rattle.madi_read.proofs.no_word.Tie as tie
+use Rattle.madi_read.proofs.at_boundary.no_word.Statement.{statement}
+use Rattle.madi_read.proofs.at_boundary.no_word.Tie as tie
 
 broken : (c : tie.After-known-told2) → c .before .c2 .given .0 .0 < 8
 broken c =

@@ -1,4 +1,4 @@
--- `madi_read::commands_on` meets its contract: each turn is a piece of the definition's reading. Assumes nothing.
+-- `madi_read::on_end::commands_on` meets its contract: each turn is a piece of the definition's reading. Assumes nothing.
 use mathlib.Core.Path.{_≡_, refl, sym, ap, _∙_}
 use mathlib.Core.List.{List}
 use Prim.Native.Nat.{ℕ, _+_, _-_, _≤_, _<_}
@@ -14,8 +14,8 @@ use Rattle.madi_read.specs.Inner.{sofar, Listed, Reached}
 use Rattle.madi_read.proofs.Carrying.{length-carried, window-carried}
 use Rattle.madi_read.proofs.Copying.{length-listed, listed-next, listed-more}
 use Rattle.madi_read.proofs.Onward.{command-on}
-use Rattle.madi_read.proofs.commands_on.Statement.{statement}
-use Rattle.madi_read.proofs.commands_on.Tie as tie
+use Rattle.madi_read.proofs.on_end.commands_on.Statement.{statement}
+use Rattle.madi_read.proofs.on_end.commands_on.Tie as tie
 
 abbrev Inv-loop : tie.InvT-loop
 Inv-loop line level channels bits n s codes₀ t₀ codes t =

@@ -1,4 +1,4 @@
--- `madi_read::short_piece` meets its contract: the ten bits are the window. Assumes nothing.
+-- `madi_read::at_boundary::short_piece` meets its contract: the ten bits are the window. Assumes nothing.
 use mathlib.Core.Path.{_≡_, ap, _∙_}
 use native.Mathlib.Omega.{arith}
 use borrow.Author.Needs.{needs}
@@ -7,8 +7,8 @@ use Rattle.bits.specs.Window.{window}
 use Rattle.madi_code.specs.Groups.{commandOf}
 use Rattle.madi_read.specs.Reader.{carried}
 use Rattle.madi_read.proofs.Carrying.{length-carried, window-carried}
-use Rattle.madi_read.proofs.short_piece.Statement.{statement}
-use Rattle.madi_read.proofs.short_piece.Tie as tie
+use Rattle.madi_read.proofs.at_boundary.short_piece.Statement.{statement}
+use Rattle.madi_read.proofs.at_boundary.short_piece.Tie as tie
 
 -- the command that the code found
 found : (c : tie.After-command-of) → let a = c .before .before .before .before .args in

@@ -1,4 +1,4 @@
--- `madi_read::piece_at` meets its contract: each way out is a row of the definition. Assumes nothing.
+-- `madi_read::at_boundary::piece_at` meets its contract: each way out is a row of the definition. Assumes nothing.
 use mathlib.Core.Path.{_≡_, sym, ap, _∙_}
 use Prim.Native.Nat.{_+_, _/_, _^_, _<_}
 use native.Mathlib.Omega.{arith}
@@ -16,8 +16,8 @@ use Rattle.madi_code.proofs.TableLaws.{word-received}
 use Rattle.madi_read.specs.Reader.{carried, pieceAt}
 use Rattle.madi_read.proofs.Carrying.{length-carried, first-ten, forty}
 use Rattle.madi_read.proofs.Onward.{no-command}
-use Rattle.madi_read.proofs.piece_at.Statement.{statement}
-use Rattle.madi_read.proofs.piece_at.Tie as tie
+use Rattle.madi_read.proofs.at_boundary.piece_at.Statement.{statement}
+use Rattle.madi_read.proofs.at_boundary.piece_at.Tie as tie
 
 abbrev row : tie.Start → Row
 row s = carried (s .args .level) (s .args .bits) (s .args .line .now)

@@ -1,9 +1,9 @@
--- `madi_read::channel_piece` meets its contract: the tests are the definition's. Assumes nothing.
+-- `madi_read::at_boundary::channel_piece` meets its contract: the tests are the definition's. Assumes nothing.
 use mathlib.Core.Path.{sym, _∙_}
 use borrow.Author.Needs.{needs}
 use borrow.Author.Tests.{eq-eqb, ne-eqb}
-use Rattle.madi_read.proofs.channel_piece.Statement.{statement}
-use Rattle.madi_read.proofs.channel_piece.Tie as tie
+use Rattle.madi_read.proofs.at_boundary.channel_piece.Statement.{statement}
+use Rattle.madi_read.proofs.at_boundary.channel_piece.Tie as tie
 
 first-right-requires : tie.Need-first-right-requires
 first-right-requires c κs = search needs

@@ -1,8 +1,8 @@
--- `madi_read::first_right` meets its contract: the tests are the definition's. Assumes nothing.
+-- `madi_read::at_boundary::first_right` meets its contract: the tests are the definition's. Assumes nothing.
 use native.Mathlib.Nat.{div-one}
 use borrow.Author.Tests.{eq-eqb, ne-eqb}
-use Rattle.madi_read.proofs.first_right.Statement.{statement}
-use Rattle.madi_read.proofs.first_right.Tie as tie
+use Rattle.madi_read.proofs.at_boundary.first_right.Statement.{statement}
+use Rattle.madi_read.proofs.at_boundary.first_right.Tie as tie
 
 returns : tie.Need-returns
 returns c = rw (eq-eqb _ _ (c .if1 .taken), div-one)

@@ -1,7 +1,7 @@
--- `madi_read::command_piece` meets its contract: the test is the definition's. Assumes nothing.
+-- `madi_read::at_boundary::command_piece` meets its contract: the test is the definition's. Assumes nothing.
 use borrow.Author.Tests.{lt-ltb, le-ltb}
-use Rattle.madi_read.proofs.command_piece.Statement.{statement}
-use Rattle.madi_read.proofs.command_piece.Tie as tie
+use Rattle.madi_read.proofs.at_boundary.command_piece.Statement.{statement}
+use Rattle.madi_read.proofs.at_boundary.command_piece.Tie as tie
 
 returns : tie.Need-returns
 returns c = rw (lt-ltb _ _ (c .if1 .taken))
