@@ -1,8 +1,8 @@
--- `trial_carriers::changes` is safe and ends. Assumes nothing.
+-- `trial_carriers::packets::changes` is safe and ends. Assumes nothing.
 use Prim.Native.Nat.{_-_, _≤_}
 use borrow.Author.Needs.{needs}
-use Rattle.trial_carriers.proofs.changes.Statement.{statement}
-use Rattle.trial_carriers.proofs.changes.Tie as tie
+use Rattle.trial_carriers.proofs.packets.changes.Statement.{statement}
+use Rattle.trial_carriers.proofs.packets.changes.Tie as tie
 
 abbrev Inv-loop : tie.InvT-loop
 Inv-loop words c₀ c = c ≤ 496

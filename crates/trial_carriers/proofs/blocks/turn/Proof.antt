@@ -1,28 +1,22 @@
--- `trial_carriers::symbols` is safe and ends. Assumes nothing.
+-- `trial_carriers::blocks::turn` is safe and ends. Assumes nothing.
 use mathlib.Core.Path.{_≡_}
-use Prim.Native.Nat.{_-_, _≤_}
+use Prim.Native.Nat.{_-_}
 use borrow.Author.Needs.{needs}
 use lib.ListN.{length}
-use Rattle.trial_carriers.proofs.symbols.Statement.{statement}
-use Rattle.trial_carriers.proofs.symbols.Tie as tie
+use Rattle.trial_carriers.proofs.blocks.turn.Statement.{statement}
+use Rattle.trial_carriers.proofs.blocks.turn.Tie as tie
 
 abbrev Inv-loop : tie.InvT-loop
-Inv-loop line₀ k₀ line k = (length line ≡ length line₀) × (k ≤ 2250)
+Inv-loop line₀ symbol k₀ line k = length line ≡ length line₀
 
 abbrev μ-loop : tie.MeasureT-loop
-μ-loop line₀ k₀ line k = 2250 - k
+μ-loop line₀ symbol k₀ line k = 24576 - k
 
 loop-holds : tie.Need-loop-holds Inv-loop μ-loop
 loop-holds c = search needs
 
 flip-requires : tie.Need-flip-requires Inv-loop μ-loop
 flip-requires c κs = search needs
-
-read-56-requires : tie.Need-read-56-requires Inv-loop μ-loop
-read-56-requires c κs = search needs
-
-flip-requires-2 : tie.Need-flip-requires-2 Inv-loop μ-loop
-flip-requires-2 c κs = search needs
 
 add-k : tie.Need-add-k Inv-loop μ-loop
 add-k c = search needs
@@ -39,16 +33,14 @@ same-length c = search needs
 returns : tie.Need-returns Inv-loop μ-loop
 returns c = search needs
 
-pub symbols-spec : {M : Type 1} → statement M
-symbols-spec =
+pub turn-spec : {M : Type 1} → statement M
+turn-spec =
     tie.close
     (tie.spec
     Inv-loop
     μ-loop
     loop-holds
     flip-requires
-    read-56-requires
-    flip-requires-2
     add-k
     loop-less
     loop-again

@@ -1,10 +1,10 @@
--- `trial_carriers::faults` is safe and ends. Assumes nothing.
+-- `trial_carriers::blocks::faults` is safe and ends. Assumes nothing.
 use mathlib.Core.Path.{_≡_}
 use Prim.Native.Nat.{_-_, _≤_}
 use borrow.Author.Needs.{needs}
 use lib.ListN.{length}
-use Rattle.trial_carriers.proofs.faults.Statement.{statement}
-use Rattle.trial_carriers.proofs.faults.Tie as tie
+use Rattle.trial_carriers.proofs.blocks.faults.Statement.{statement}
+use Rattle.trial_carriers.proofs.blocks.faults.Tie as tie
 
 abbrev Inv-loop : tie.InvT-loop
 Inv-loop line₀ k₀ line k = (length line ≡ length line₀) × (k ≤ 24)

@@ -1,8 +1,8 @@
--- `trial_carriers::starts` is safe and ends. Assumes nothing.
+-- `trial_carriers::hunts::starts` is safe and ends. Assumes nothing.
 use Prim.Native.Nat.{_-_, _≤_}
 use borrow.Author.Needs.{needs}
-use Rattle.trial_carriers.proofs.starts.Statement.{statement}
-use Rattle.trial_carriers.proofs.starts.Tie as tie
+use Rattle.trial_carriers.proofs.hunts.starts.Statement.{statement}
+use Rattle.trial_carriers.proofs.hunts.starts.Tie as tie
 
 abbrev Inv-loop : tie.InvT-loop
 Inv-loop line k₀ k = k ≤ 144
