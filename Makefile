@@ -153,17 +153,17 @@ header:
 	    echo '#include "lampcoil.h"' | c++ -std=c++11 -Wall -Wextra -Werror -pedantic -Iinclude -x c++ -fsyntax-only -; fi
 
 # The second program, watched, on what is written down with its answer; on every constant of the header; and on every
-# change of status bits that a right CRCC excludes.
+# change of status bits that a right CRCC excludes. The files of each of these programs begin with its name.
 second: build/watched.o
 	for t in listed constants caught; do \
-	    $(CC) $(CFLAGS) $$(cat build/sanitise) -Iinclude -o build/$${t}_second tests/$$t.c build/watched.o || exit 1; \
+	    $(CC) $(CFLAGS) $$(cat build/sanitise) -Iinclude -o build/$${t}_second tests/$$t*.c build/watched.o || exit 1; \
 	    $(WATCHED) build/$${t}_second || exit 1; done
 
 # The library on the same.
 listed: $(ARCHIVE)
 	@mkdir -p build
 	for t in listed constants caught; do \
-	    $(X86) cc $(CFLAGS) -Iinclude -o build/$$t tests/$$t.c $(ARCHIVE) || exit 1; \
+	    $(X86) cc $(CFLAGS) -Iinclude -o build/$$t tests/$$t*.c $(ARCHIVE) || exit 1; \
 	    $(X86) run build/$$t || exit 1; done
 
 # Every file that a test is held to is what the second program gives.
