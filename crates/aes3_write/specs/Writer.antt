@@ -16,7 +16,7 @@ use Rattle.aes3_line.specs.Line.{lineFrom}
 unfoldable pub blockLine : List ℤ → List ℕ → ℕ → List ℕ
 blockLine samples side level = lineFrom 0 (odd level) (bodiesOf samples side)
 
--- the lengths of samples, side table and line (1), the level (2), then what is checked of a block: 3, 4, 5, 6, 18
+-- the lengths of samples, side table and line (1), the level (2), then what is checked of a block: 20, 3, 4, 5, 6, 18
 abbrev pub writeDemands : List ℤ → List ℕ → ℕ → ℕ → List Demand
 writeDemands samples side level line =
     asks 1 0 (eqb (length samples) 384)

@@ -24,7 +24,7 @@ use Rattle.subframe.specs.Body.{parityOf, IsBody, Proper, bodyOf, bodyWritten, 
 use Rattle.block.specs.Side.{validityOf, validity, user, status, fault, columns, columnBit, columnLength, sideLength, sideBit, columnIn, columnOf}
 use Rattle.subframe.proofs.BodyTrips.{written-in, written-proper, proper-zero, read-written, Reading, reading, write-fields, body-proper}
 use Rattle.block.proofs.SideLaws.{column-lt, side-lt, side-in, column-at, row-column, written-back, getD-columnIn, length-column}
-use Rattle.block.specs.Block.{sideAt, subframeBody, bodiesOf, samplesOf, columnRow, sideOf, fillDemands, blockFilled}
+use Rattle.block.specs.Block.{sideAt, subframeBody, bodiesOf, samplesOf, rowFrom, sideOf, fillDemands, blockFilled}
 use Rattle.block.specs.Check.{Faultless}
 
 -- every sample is one of 24 bits
@@ -55,7 +55,7 @@ getD-samples b i h = getD-listed 384 (λ i. sampleOf (getD b i 0)) i (pos 0) h
 
 -- the row and the octets of column k of what is read
 abbrev rowOf : List ℕ → ℕ → Row
-rowOf b k = columnRow (columnBit (k % columns)) b (k / columns)
+rowOf b k = rowFrom (columnBit (k % columns)) b (k / columns)
 
 abbrev pub columnRead : List ℕ → ℕ → List ℕ
 columnRead b k = columnOf (rowOf b k)
@@ -65,12 +65,12 @@ unfolding sideOf
 length-side b = length-joined columnLength (columnRead b) (λ k. length-column (rowOf b k)) 0 (2 * columns)
 
 module _ (holds : ℕ → ℕ) (b : List ℕ) (ch : ℕ) where
-  pub length-channel-row : length (columnRow holds b ch) ≡ 192
-  unfolding columnRow
+  pub length-channel-row : length (rowFrom holds b ch) ≡ 192
+  unfolding rowFrom
   length-channel-row = length-listed 0 192 (λ f. odd (holds (getD b (2 * f + ch) 0)))
 
-  pub getD-channel-row : (f : ℕ) → f < 192 → getD (columnRow holds b ch) f false ≡ odd (holds (getD b (2 * f + ch) 0))
-  unfolding columnRow
+  pub getD-channel-row : (f : ℕ) → f < 192 → getD (rowFrom holds b ch) f false ≡ odd (holds (getD b (2 * f + ch) 0))
+  unfolding rowFrom
   getD-channel-row f h = getD-listed 192 (λ f. odd (holds (getD b (2 * f + ch) 0))) f false h
 
 pub getD-side : (b : List ℕ) (k j : ℕ) → k < 2 * columns → j < columnLength

@@ -22,7 +22,7 @@ use Rattle.bits.proofs.Windows.{length-part}
 use Rattle.subframe.specs.Body.{parityOf}
 use Rattle.subframe.proofs.BodyLaws.{parity-lt}
 use Rattle.block.specs.Side.{columnBits}
-use Rattle.block.specs.Block.{columnRow}
+use Rattle.block.specs.Block.{rowFrom}
 use Rattle.block.specs.Inner.{digitsOf, apartTable, gathered}
 use Rattle.block.proofs.BlockLaws.{getD-channel-row}
 
@@ -93,14 +93,14 @@ digits-lt (g ∷ gs) b = rw pow-suc (omega (arith, digits-lt gs b))
 
 -- of one column the last m of eight frames from frame f on; one frame more
 row-more : (g : ℕ → ℕ) (bodies : List ℕ) (channel f m : ℕ) → f + 8 ≤ 192 → m < 8
-    → little (part (columnRow g bodies channel) (f + 8 - (m + 1)) (m + 1))
-    ≡ little (part (columnRow g bodies channel) (f + 8 - m) m) * 2 + g (getD bodies (2 * (f + 7 - m) + channel) 0) % 2
+    → little (part (rowFrom g bodies channel) (f + 8 - (m + 1)) (m + 1))
+    ≡ little (part (rowFrom g bodies channel) (f + 8 - m) m) * 2 + g (getD bodies (2 * (f + 7 - m) + channel) 0) % 2
 unfolding little part
 row-more g bodies channel f m hf h =
     let at = f + 7 - m in
     let p : f + 8 - (m + 1) ≡ at = omega arith in
     let q : f + 8 - m ≡ suc at = omega arith in
-    let d : digit (getD (columnRow g bodies channel) at false) ≡ g (getD bodies (2 * at + channel) 0) % 2 =
+    let d : digit (getD (rowFrom g bodies channel) at false) ≡ g (getD bodies (2 * at + channel) 0) % 2 =
     ap digit (getD-channel-row g bodies channel at (omega arith)) ∙ digit-odd (g (getD bodies (2 * at + channel) 0)) in
     rw (p, q, add-one m) (omega arith)
 
@@ -112,11 +112,11 @@ module _ (bodies : List ℕ) (channel f m : ℕ) where
   more [] hf h = refl
   more (g ∷ gs) hf h = omega (arith, row-more g bodies channel f m hf h, more gs hf h)
 
-  pub row-lt : (g : ℕ → ℕ) → m ≤ 8 → little (part (columnRow g bodies channel) f m) < 256
+  pub row-lt : (g : ℕ → ℕ) → m ≤ 8 → little (part (rowFrom g bodies channel) f m) < 256
   row-lt g h =
       omega (
         arith,
-        rw (length-part (columnRow g bodies channel) f m) at (little-lt (part (columnRow g bodies channel) f m)),
+        rw (length-part (rowFrom g bodies channel) f m) at (little-lt (part (rowFrom g bodies channel) f m)),
         pow-mono {i = m} {j = 8} h,
       )
 

@@ -32,12 +32,12 @@ unfoldable pub samplesOf : List ℕ → List ℤ
 samplesOf bodies = listed 0 384 (λ i. sampleOf (getD bodies i 0))
 
 -- what is held of a channel's bodies, frame 0 first
-unfoldable pub columnRow : (ℕ → ℕ) → List ℕ → ℕ → Row
-columnRow holds bodies channel = listed 0 192 (λ frame. odd (holds (getD bodies (2 * frame + channel) 0)))
+unfoldable pub rowFrom : (ℕ → ℕ) → List ℕ → ℕ → Row
+rowFrom holds bodies channel = listed 0 192 (λ frame. odd (holds (getD bodies (2 * frame + channel) 0)))
 
 -- the columns of A, then those of B
 unfoldable pub sideOf : List ℕ → List ℕ
-sideOf bodies = joined 0 (2 * columns) (λ k. columnOf (columnRow (columnBit (k % columns)) bodies (k / columns)))
+sideOf bodies = joined 0 (2 * columns) (λ k. columnOf (rowFrom (columnBit (k % columns)) bodies (k / columns)))
 
 -- ---- filling samples and side table from 384 bodies, each buffer of its length (1)
 
