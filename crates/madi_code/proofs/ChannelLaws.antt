@@ -16,7 +16,7 @@ use Rattle.bits.proofs.Rows.{length-bits, length-bigBits, getD-bits, big-bigBit
 use Rattle.bits.proofs.Windows.{part-same, part-all, window-split, window-part, window-high, window-lt}
 use Rattle.bits.proofs.Packing.{length-pack, getD-pack}
 use Rattle.bits.proofs.Chains.{length-chained, part-chained, windows-same}
-use Rattle.madi_code.specs.Groups.{groupCode, commandOf, groupOf}
+use Rattle.madi_code.specs.Groups.{groupCodes, groupCode, commandOf, groupOf}
 use Rattle.madi_code.specs.Channels.{channelRow, onData, channelFrom, channelOf}
 use Rattle.madi_code.specs.declared.Group.{Group}
 use Rattle.madi_code.specs.declared.Group.the-variants.{Data, Half, Nothing}
@@ -65,6 +65,11 @@ groups-next w g h =
 pub groups-all : (w : ℕ) → window (channelRow w) 0 40 ≡ big (channelRow w)
 unfolding window
 groups-all w = ap big (part-all (channelRow w) 40 (length-channel w))
+
+-- an inactive channel, whose word is 0: eight groups 11110
+pub idle-bits : big (channelRow 0) ≡ 0b1111011110111101111011110111101111011110
+unfolding channelRow chain pack part big bits bigBits groupCode groupCodes
+idle-bits = refl
 
 -- ---- received
 

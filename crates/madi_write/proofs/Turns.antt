@@ -1,7 +1,7 @@
 -- Block after block of a frame onto a line, whatever the block is. Assumes nothing.
-use mathlib.Core.Path.{_≡_, refl, ap, _∙_}
+use mathlib.Core.Path.{_≡_, refl, sym, ap, _∙_}
 use mathlib.Core.List.{List}
-use Prim.Native.Nat.{ℕ, _+_, _-_, _*_, _^_, _≤_, _<_}
+use Prim.Native.Nat.{ℕ, zero, suc, _+_, _-_, _*_, _%_, _^_, _≤_, _<_}
 use native.Mathlib.Omega.{arith}
 use borrow.Author.Tests.{lt-ltb, le-ltb}
 use lib.ListN.{length}
@@ -11,10 +11,19 @@ use Rattle.bits.proofs.Filling.{over}
 use Rattle.bits.proofs.Windows.{window-lt}
 use Rattle.madi_code.specs.Frame.{boundary}
 use Rattle.madi_code.specs.Channels.{channelRow}
+use Rattle.madi_code.proofs.ChannelLaws.{idle-bits}
 use Rattle.madi_write.specs.Writer.{frameRow, needed, frameOctets}
-use Rattle.madi_write.specs.Inner.{sentWord, commandsNumber, blockOf, Laid}
+use Rattle.madi_write.specs.Inner.{sentWord, commandsNumber, blockOf, Levels, Laid}
 use Rattle.madi_write.proofs.Frames.{block-window}
 use Rattle.madi_write.proofs.Blocks.{sent, block-levels, next-level, length-octets, octet-right}
+
+-- after an inactive channel the level is what it was before it: each of its groups changes it four times
+pub idle-level : (last y : ℕ) → last < 2 → Levels (last * 2 ^ 40 + big (channelRow 0)) y → y % 2 ≡ last
+idle-level zero y h f =
+    ap (λ (z : ℕ). z % 2) (f 0b1010010100101001010010100101001010010100 (omega arith) (ap (λ (v : ℕ). 0 * 2 ^ 40 + v) (sym idle-bits)))
+idle-level (suc zero) y h f =
+    ap (λ (z : ℕ). z % 2) (f 0b10101101011010110101101011010110101101011 (omega arith) (ap (λ (v : ℕ). 1 * 2 ^ 40 + v) (sym idle-bits)))
+idle-level (suc (suc l)) y h f = absurd (omega arith)
 
 module _ (channels : ℕ) (words commands : List ℕ) (level : ℕ) where
   abbrev new : List ℕ

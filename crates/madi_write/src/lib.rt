@@ -77,7 +77,8 @@ fn lay(line: &mut [u8], b: usize, last: u64, x: u64) -> u64
 }
 
 // The octets of a frame, into the front of line: blocks of five octets, the active channels, the inactive ones and then
-// commands by fours, each in a loop of its own; then the commands that are left.
+// commands by fours, each in a loop of its own; then the commands that are left. An inactive channel leaves the level as
+// it was, so all of them are the same five octets.
 fn fill(channels: usize, words: &[u32], commands: &[u8], level: u32, line: &mut [u8])
     requires { ⌜ (level ≤ 1) × (channels ≤ 64) × (length (now words) ≤ channels) × (length (now commands) ≤ 255) × (numbered (now commands) ≡ true) × ((k : ℕ) → getD (now words) k 0 % 4 ≡ 0) × (needed channels (length (now commands)) ≤ length (now line)) ⌝ }
     ensures { λ r. ⌜ now (line .exit) ≡ frameOctets channels (now (words .entry)) (now (commands .entry)) level ++ drop (needed channels (length (now (commands .entry)))) (now (line .entry)) ⌝ }
@@ -94,8 +95,9 @@ fn fill(channels: usize, words: &[u32], commands: &[u8], level: u32, line: &mut 
         last = lay(line, b, last, x);
         b += 1;
     }
+    let rest = levels_after(last * 0x100_0000_0000 + idle);
     while b < channels {
-        last = lay(line, b, last, idle);
+        store(line, 5 * b, rest, 5);
         b += 1;
     }
     while b < whole {

@@ -1,6 +1,6 @@
 -- `madi_write::fill` meets its contract: in each loop the octets passed are the frame's, and `last` is the level before
 -- the next block. Assumes nothing.
-use mathlib.Core.Path.{_≡_, refl, ap, subst, _∙_}
+use mathlib.Core.Path.{_≡_, refl, sym, ap, subst, _∙_}
 use mathlib.Core.List.{List, _++_}
 use Prim.Native.Nat.{ℕ, _+_, _*_, _-_, _/_, _%_, _^_, _≤_, _<_}
 use native.Mathlib.Omega.{arith}
@@ -14,12 +14,13 @@ use Rattle.bits.specs.Window.{window}
 use Rattle.bits.proofs.Filling.{over}
 use Rattle.bits.proofs.Windows.{window-lt}
 use Rattle.madi_code.specs.Channels.{channelRow}
+use Rattle.madi_code.proofs.ChannelLaws.{idle-bits}
 use Rattle.madi_code.proofs.TableLaws.{groups-sent, groups-send}
 use Rattle.madi_write.specs.Writer.{frameOctets, needed}
 use Rattle.madi_write.specs.Inner.{blockOf, Levels}
 use Rattle.madi_write.proofs.Frames.{commands-lt}
 use Rattle.madi_write.proofs.Blocks.{sent, first-level, tail-levels, length-octets, octet-right}
-use Rattle.madi_write.proofs.Turns.{Passed, passed-first, passed-lt, passed-next, block-lt, active-block, idle-block, command-block}
+use Rattle.madi_write.proofs.Turns.{Passed, passed-first, passed-lt, passed-next, block-lt, active-block, idle-block, idle-level, command-block}
 use Rattle.madi_write.proofs.fill.Statement.{statement}
 use Rattle.madi_write.proofs.fill.Tie as tie
 
@@ -31,24 +32,28 @@ abbrev μ-loop : tie.MeasureT-loop
 μ-loop channels words commands level line₀ table codes idle fours whole last₀ b₀ line last b = length words - b
 
 abbrev Inv-loop2 : tie.InvT-loop2
-Inv-loop2 channels words commands level line₀ codes idle fours whole last₀ b₀ line last b =
+Inv-loop2 channels words commands level line₀ codes idle fours whole last b₀ rest line b =
     (length words ≤ b) × (b ≤ channels) × Passed channels words commands level line₀ b₀ line last b
 
 abbrev μ-loop2 : tie.MeasureT-loop2
-μ-loop2 channels words commands level line₀ codes idle fours whole last₀ b₀ line last b = channels - b
+μ-loop2 channels words commands level line₀ codes idle fours whole last b₀ rest line b = channels - b
 
 abbrev Inv-loop3 : tie.InvT-loop3
-Inv-loop3 channels words commands level line₀ codes idle fours whole last₀ b₀ line last b =
+Inv-loop3 channels words commands level line₀ codes idle fours whole last₀ b₀ rest line last b =
     (channels ≤ b) × (b ≤ channels + length commands / 4) × Passed channels words commands level line₀ b₀ line last b
 
 abbrev μ-loop3 : tie.MeasureT-loop3
-μ-loop3 channels words commands level line₀ codes idle fours whole last₀ b₀ line last b = channels + length commands / 4 - b
+μ-loop3 channels words commands level line₀ codes idle fours whole last₀ b₀ rest line last b = channels + length commands / 4 - b
 
 abbrev start : tie.At-loop Inv-loop μ-loop Inv-loop2 μ-loop2 Inv-loop3 μ-loop3 → tie.Start Inv-loop μ-loop Inv-loop2 μ-loop2 Inv-loop3 μ-loop3
 start c = c .before .before .before .before .before .before .before .before
 
+-- the first loop at its end
+abbrev first-loop : tie.At-loop2 Inv-loop μ-loop Inv-loop2 μ-loop2 Inv-loop3 μ-loop3 → tie.At-loop Inv-loop μ-loop Inv-loop2 μ-loop2 Inv-loop3 μ-loop3
+first-loop c = c .before .before .before
+
 abbrev start2 : tie.At-loop2 Inv-loop μ-loop Inv-loop2 μ-loop2 Inv-loop3 μ-loop3 → tie.Start Inv-loop μ-loop Inv-loop2 μ-loop2 Inv-loop3 μ-loop3
-start2 c = start (c .before .before)
+start2 c = start (first-loop c)
 
 abbrev start3 : tie.At-loop3 Inv-loop μ-loop Inv-loop2 μ-loop2 Inv-loop3 μ-loop3 → tie.Start Inv-loop μ-loop Inv-loop2 μ-loop2 Inv-loop3 μ-loop3
 start3 c = start2 (c .before .before)
@@ -116,32 +121,40 @@ loop-again c =
           (omega arith) (c .before .line .given) (active-is (c .before .before .before .before)) (c .before .before .lay .ensures) (p .loop .inv .1),
     )
 
+-- what an inactive channel is
+idle-sent : (o : tie.At-loop Inv-loop μ-loop Inv-loop2 μ-loop2 Inv-loop3 μ-loop3) → o .before .bits-by .result ≡ big (channelRow 0)
+idle-sent o = o .before .bits-by .ensures ∙ groups-sent _ 0 (groups-send _ (o .before .before .before .before .groups .ensures))
+
+idle-lt : (o : tie.At-loop Inv-loop μ-loop Inv-loop2 μ-loop2 Inv-loop3 μ-loop3) → o .before .bits-by .result < 2 ^ 40
+idle-lt o = omega (arith, idle-sent o, idle-bits)
+
+first-lt : (o : tie.At-loop Inv-loop μ-loop Inv-loop2 μ-loop2 Inv-loop3 μ-loop3) → o .loop .last < 2
+first-lt o =
+    let a = start o .args in
+    passed-lt (a .channels) (a .words .now) (a .commands .now) (a .level) (o .loop .last) (o .loop .b) (o .loop .inv .1 .1)
+
+mul-levels-after : tie.Need-mul-levels-after Inv-loop μ-loop Inv-loop2 μ-loop2 Inv-loop3 μ-loop3
+mul-levels-after c = omega (arith, first-lt (c .before))
+
+add-levels-after : tie.Need-add-levels-after Inv-loop μ-loop Inv-loop2 μ-loop2 Inv-loop3 μ-loop3
+add-levels-after c = omega (arith, first-lt (c .before), idle-lt (c .before))
+
+levels-after-requires : tie.Need-levels-after-requires Inv-loop μ-loop Inv-loop2 μ-loop2 Inv-loop3 μ-loop3
+levels-after-requires c κs = search needs
+
 loop2-holds : tie.Need-loop2-holds Inv-loop μ-loop Inv-loop2 μ-loop2 Inv-loop3 μ-loop3
 loop2-holds c =
-    let p = c .before in
-    let a = start p .args in
-    (omega arith, omega arith, passed-first (a .channels) (a .words .now) (a .commands .now) (a .level) (p .loop .line) (p .loop .last) (p .loop .b) (p .loop .inv .1 .1))
+    let o = c .before .before in
+    let a = start o .args in
+    (omega arith, omega arith, passed-first (a .channels) (a .words .now) (a .commands .now) (a .level) (o .loop .line) (o .loop .last) (o .loop .b) (o .loop .inv .1 .1))
 
-idle-is : (c : tie.In-loop2 Inv-loop μ-loop Inv-loop2 μ-loop2 Inv-loop3 μ-loop3)
-    → let p = c .before in
-    let a = start2 p .args in
-    p .before .before .before .bits-by .result ≡ blockOf (a .channels) (a .words .now) (a .commands .now) (p .loop2 .b)
-idle-is c =
-    let p = c .before in
-    let o = p .before .before in
-    let a = start2 p .args in
-    o .before .bits-by .ensures ∙ groups-sent _ 0 (groups-send _ (o .before .before .before .before .groups .ensures))
-    ∙ idle-block (a .channels) (a .words .now) (a .commands .now) (a .level) (omega arith) (p .loop2 .b) (omega arith) (omega arith)
+mul-store : tie.Need-mul-store Inv-loop μ-loop Inv-loop2 μ-loop2 Inv-loop3 μ-loop3
+mul-store c = omega arith
 
-lay-requires-2 : tie.Need-lay-requires-2 Inv-loop μ-loop Inv-loop2 μ-loop2 Inv-loop3 μ-loop3
-lay-requires-2 c κs =
+store-requires : tie.Need-store-requires Inv-loop μ-loop Inv-loop2 μ-loop2 Inv-loop3 μ-loop3
+store-requires c κs =
     let p = c .before .before in
-    let a = start2 p .args in (
-      omega arith,
-      passed-lt (a .channels) (a .words .now) (a .commands .now) (a .level) (p .loop2 .last) (p .loop2 .b) (p .loop2 .inv .2 .1),
-      block-lt (a .channels) (a .words .now) (a .commands .now) (a .level) (omega arith) (p .loop2 .b) _ (omega arith) (idle-is (c .before)),
-      omega (arith, p .loop2 .inv .2 .0, p .before .before .loop .inv .1 .0),
-    )
+    (omega arith, omega (arith, p .loop2 .inv .2 .0, first-loop p .loop .inv .1 .0))
 
 add-b-2 : tie.Need-add-b-2 Inv-loop μ-loop Inv-loop2 μ-loop2 Inv-loop3 μ-loop3
 add-b-2 c = omega arith
@@ -149,21 +162,29 @@ add-b-2 c = omega arith
 loop2-less : tie.Need-loop2-less Inv-loop μ-loop Inv-loop2 μ-loop2 Inv-loop3 μ-loop3
 loop2-less c = omega arith
 
+-- the level is what it was, and with it what is stored
 loop2-again : tie.Need-loop2-again Inv-loop μ-loop Inv-loop2 μ-loop2 Inv-loop3 μ-loop3
 loop2-again c =
     let p = c .before .before .before .before .before in
-    let a = start2 p .args in (
+    let o = first-loop p in
+    let a = start2 p .args in
+    let y = p .before .levels-after .result in
+    let idle = idle-sent o in
+    let same : Levels (o .loop .last * 2 ^ 40 + big (channelRow 0)) y =
+    subst (λ (x : ℕ). Levels (o .loop .last * 2 ^ 40 + x) y) idle (p .before .levels-after .ensures) in (
       omega arith,
       omega arith,
-      passed-next (a .channels) (a .words .now) (a .commands .now) (a .level) (omega arith) (p .before .before .loop .line) (p .before .before .loop .b) (p .loop2 .line) (p .loop2 .last) (p .loop2 .b) _ _ _
-          (omega arith) (c .before .line2 .given) (idle-is (c .before .before .before .before)) (c .before .before .lay2 .ensures) (p .loop2 .inv .2),
+      passed-next (a .channels) (a .words .now) (a .commands .now) (a .level) (omega arith) (o .loop .line) (o .loop .b) (p .loop2 .line) (o .loop .last) (p .loop2 .b) _ _ _
+          (omega arith) (c .before .line2 .given)
+          (idle-block (a .channels) (a .words .now) (a .commands .now) (a .level) (omega arith) (p .loop2 .b) (omega arith) (omega arith))
+          (y, same, sym (idle-level (o .loop .last) y (first-lt o) same), c .before .before .store .ensures) (p .loop2 .inv .2),
     )
 
 loop3-holds : tie.Need-loop3-holds Inv-loop μ-loop Inv-loop2 μ-loop2 Inv-loop3 μ-loop3
 loop3-holds c =
     let p = c .before in
     let a = start2 p .args in
-    (omega arith, omega arith, passed-first (a .channels) (a .words .now) (a .commands .now) (a .level) (p .loop2 .line) (p .loop2 .last) (p .loop2 .b) (p .loop2 .inv .2 .1))
+    (omega arith, omega arith, passed-first (a .channels) (a .words .now) (a .commands .now) (a .level) (p .loop2 .line) (first-loop p .loop .last) (p .loop2 .b) (p .loop2 .inv .2 .1))
 
 sub-commands-from : tie.Need-sub-commands-from Inv-loop μ-loop Inv-loop2 μ-loop2 Inv-loop3 μ-loop3
 sub-commands-from c = omega arith
@@ -174,7 +195,7 @@ mul-commands-from c = omega arith
 commands-from-requires : tie.Need-commands-from-requires Inv-loop μ-loop Inv-loop2 μ-loop2 Inv-loop3 μ-loop3
 commands-from-requires c κs =
     let p = c .before .before in
-    let o = p .before .before .before .before in
+    let o = first-loop (p .before .before) in
     (o .before .before .before .command-codes .ensures, omega arith, omega arith, start3 p .pre .4)
 
 commands-are : (c : tie.After-commands-from Inv-loop μ-loop Inv-loop2 μ-loop2 Inv-loop3 μ-loop3)
@@ -187,14 +208,14 @@ commands-are c =
     c .commands-from .ensures
     ∙ command-block (a .channels) (a .words .now) (a .commands .now) (a .level) (omega arith) (p .loop3 .b) (p .loop3 .inv .0)
 
-lay-requires-3 : tie.Need-lay-requires-3 Inv-loop μ-loop Inv-loop2 μ-loop2 Inv-loop3 μ-loop3
-lay-requires-3 c κs =
+lay-requires-2 : tie.Need-lay-requires-2 Inv-loop μ-loop Inv-loop2 μ-loop2 Inv-loop3 μ-loop3
+lay-requires-2 c κs =
     let p = c .before .before .before .before in
     let a = start3 p .args in (
       omega arith,
       passed-lt (a .channels) (a .words .now) (a .commands .now) (a .level) (p .loop3 .last) (p .loop3 .b) (p .loop3 .inv .2 .1),
       block-lt (a .channels) (a .words .now) (a .commands .now) (a .level) (omega arith) (p .loop3 .b) _ (omega arith) (commands-are (c .before)),
-      omega (arith, p .loop3 .inv .2 .0, p .before .before .loop2 .inv .2 .0, p .before .before .before .before .loop .inv .1 .0),
+      omega (arith, p .loop3 .inv .2 .0, p .before .before .loop2 .inv .2 .0, first-loop (p .before .before) .loop .inv .1 .0),
     )
 
 add-b-3 : tie.Need-add-b-3 Inv-loop μ-loop Inv-loop2 μ-loop2 Inv-loop3 μ-loop3
@@ -210,7 +231,7 @@ loop3-again c =
       omega arith,
       omega arith,
       passed-next (a .channels) (a .words .now) (a .commands .now) (a .level) (omega arith) (p .before .before .loop2 .line) (p .before .before .loop2 .b) (p .loop3 .line) (p .loop3 .last) (p .loop3 .b) _ _ _
-          (omega arith) (c .before .line3 .given) (commands-are (c .before .before .before .before)) (c .before .before .lay3 .ensures) (p .loop3 .inv .2),
+          (omega arith) (c .before .line3 .given) (commands-are (c .before .before .before .before)) (c .before .before .lay2 .ensures) (p .loop3 .inv .2),
     )
 
 -- the whole blocks are passed
@@ -222,12 +243,12 @@ module _ (p : tie.At-loop3 Inv-loop μ-loop Inv-loop2 μ-loop2 Inv-loop3 μ-loop
   last-lt = omega (arith, p .loop3 .inv .2 .1, window-lt levelled (40 * p .loop3 .b) 1)
 
   long : length (p .loop3 .line) ≡ length (start3 p .args .line .now)
-  long = p .loop3 .inv .2 .0 ∙ p .before .before .loop2 .inv .2 .0 ∙ p .before .before .before .before .loop .inv .1 .0
+  long = p .loop3 .inv .2 .0 ∙ p .before .before .loop2 .inv .2 .0 ∙ first-loop (p .before .before) .loop .inv .1 .0
 
   passed : p .loop3 .line ≡ over (5 * p .loop3 .b) (let a = start3 p .args in frameOctets (a .channels) (a .words .now) (a .commands .now) (a .level)) (start3 p .args .line .now)
   passed =
       let a = start3 p .args in
-      p .loop3 .inv .2 .2 (a .line .now) (omega arith) (p .before .before .loop2 .inv .2 .2 (a .line .now) (omega arith) (p .before .before .before .before .loop .inv .1 .2 (a .line .now) (omega arith) refl))
+      p .loop3 .inv .2 .2 (a .line .now) (omega arith) (p .before .before .loop2 .inv .2 .2 (a .line .now) (omega arith) (first-loop (p .before .before) .loop .inv .1 .2 (a .line .now) (omega arith) refl))
 
   -- the commands that are left, after the level before them
   rest-same : (k x : ℕ) → k < 4 → p .loop3 .last * 2 ^ (10 * k) % 2 ^ 64 + x ≡ p .loop3 .last * 2 ^ (10 * k) + x
@@ -248,17 +269,17 @@ mul-commands-from-2 c = search needs
 commands-from-requires-2 : tie.Need-commands-from-requires-2 Inv-loop μ-loop Inv-loop2 μ-loop2 Inv-loop3 μ-loop3
 commands-from-requires-2 c κs =
     let p = c .before .before in
-    let o = p .before .before .before .before in
+    let o = first-loop (p .before .before) in
     (o .before .before .before .command-codes .ensures, omega arith, omega arith, start3 p .pre .4)
 
-mul-levels-after : tie.Need-mul-levels-after Inv-loop μ-loop Inv-loop2 μ-loop2 Inv-loop3 μ-loop3
-mul-levels-after c = search needs
+mul-levels-after-2 : tie.Need-mul-levels-after-2 Inv-loop μ-loop Inv-loop2 μ-loop2 Inv-loop3 μ-loop3
+mul-levels-after-2 c = search needs
 
 shl-levels-after : tie.Need-shl-levels-after Inv-loop μ-loop Inv-loop2 μ-loop2 Inv-loop3 μ-loop3
 shl-levels-after c = search needs
 
-add-levels-after : tie.Need-add-levels-after Inv-loop μ-loop Inv-loop2 μ-loop2 Inv-loop3 μ-loop3
-add-levels-after c =
+add-levels-after-2 : tie.Need-add-levels-after-2 Inv-loop μ-loop Inv-loop2 μ-loop2 Inv-loop3 μ-loop3
+add-levels-after-2 c =
     let p = c .before .before .before in
     let a = start3 p .args in
     let n = length (a .commands .now) in
@@ -266,14 +287,14 @@ add-levels-after c =
     omega (arith, c .commands-from2 .ensures, commands-lt (a .commands .now) (4 * (n / 4)) (n % 4) (omega arith) (omega arith)) in
     record { fits = rest-small p (n % 4) (c .commands-from2 .result) (omega arith) small }
 
-levels-after-requires : tie.Need-levels-after-requires Inv-loop μ-loop Inv-loop2 μ-loop2 Inv-loop3 μ-loop3
-levels-after-requires c κs = search needs
-
-mul-store : tie.Need-mul-store Inv-loop μ-loop Inv-loop2 μ-loop2 Inv-loop3 μ-loop3
-mul-store c = search needs
+levels-after-requires-2 : tie.Need-levels-after-requires-2 Inv-loop μ-loop Inv-loop2 μ-loop2 Inv-loop3 μ-loop3
+levels-after-requires-2 c κs = search needs
 
 mul-store-2 : tie.Need-mul-store-2 Inv-loop μ-loop Inv-loop2 μ-loop2 Inv-loop3 μ-loop3
 mul-store-2 c = search needs
+
+mul-store-3 : tie.Need-mul-store-3 Inv-loop μ-loop Inv-loop2 μ-loop2 Inv-loop3 μ-loop3
+mul-store-3 c = search needs
 
 sub-store : tie.Need-sub-store Inv-loop μ-loop Inv-loop2 μ-loop2 Inv-loop3 μ-loop3
 sub-store c = search needs
@@ -281,24 +302,24 @@ sub-store c = search needs
 shl-store : tie.Need-shl-store Inv-loop μ-loop Inv-loop2 μ-loop2 Inv-loop3 μ-loop3
 shl-store c = search needs
 
-mul-store-3 : tie.Need-mul-store-3 Inv-loop μ-loop Inv-loop2 μ-loop2 Inv-loop3 μ-loop3
-mul-store-3 c = search needs
+mul-store-4 : tie.Need-mul-store-4 Inv-loop μ-loop Inv-loop2 μ-loop2 Inv-loop3 μ-loop3
+mul-store-4 c = search needs
 
 add-store : tie.Need-add-store Inv-loop μ-loop Inv-loop2 μ-loop2 Inv-loop3 μ-loop3
 add-store c = search needs
 
-store-requires : tie.Need-store-requires Inv-loop μ-loop Inv-loop2 μ-loop2 Inv-loop3 μ-loop3
-store-requires c κs =
+store-requires-2 : tie.Need-store-requires-2 Inv-loop μ-loop Inv-loop2 μ-loop2 Inv-loop3 μ-loop3
+store-requires-2 c κs =
     let p = c .before .before .before .before .before in
     (omega arith, omega (arith, long p))
 
 same-length : tie.Need-same-length Inv-loop μ-loop Inv-loop2 μ-loop2 Inv-loop3 μ-loop3
 same-length c = search needs
 
-last-block : (c : tie.After-levels-after Inv-loop μ-loop Inv-loop2 μ-loop2 Inv-loop3 μ-loop3)
+last-block : (c : tie.After-levels-after2 Inv-loop μ-loop Inv-loop2 μ-loop2 Inv-loop3 μ-loop3)
     → let p = c .before .before .before .before in
     let a = start3 p .args in
-    c .levels-after .result * 2 ^ (40 - 10 * (length (a .commands .now) % 4))
+    c .levels-after2 .result * 2 ^ (40 - 10 * (length (a .commands .now) % 4))
     ≡ window (levelled p) (40 * (a .channels + length (a .commands .now) / 4)) 41
 last-block c =
     let p = c .before .before .before .before in
@@ -308,11 +329,11 @@ last-block c =
     let whole = a .channels + fours in
     let z : p .loop3 .b ≡ whole = omega arith in
     let x : p .loop3 .last ≡ window (levelled p) (40 * whole) 1 = p .loop3 .inv .2 .1 ∙ ap (λ (b : ℕ). window (levelled p) (40 * b) 1) z in
-    tail-levels (a .channels) (a .words .now) (a .commands .now) (a .level) (omega arith) whole (4 * fours) k (p .loop3 .last) (c .levels-after .result)
+    tail-levels (a .channels) (a .words .now) (a .commands .now) (a .level) (omega arith) whole (4 * fours) k (p .loop3 .last) (c .levels-after2 .result)
     (omega arith) (omega arith) (omega arith) x
-    (subst (λ (s : ℕ). Levels s (c .levels-after .result))
+    (subst (λ (s : ℕ). Levels s (c .levels-after2 .result))
     (rest-same p k (c .before .commands-from2 .result) (omega arith) ∙ ap (λ (v : ℕ). p .loop3 .last * 2 ^ (10 * k) + v) (c .before .commands-from2 .ensures))
-    (c .levels-after .ensures))
+    (c .levels-after2 .ensures))
 
 returns : tie.Need-returns Inv-loop μ-loop Inv-loop2 μ-loop2 Inv-loop3 μ-loop3
 returns c =
@@ -322,14 +343,14 @@ returns c =
     let k = length (a .commands .now) % 4 in
     let whole = a .channels + length (a .commands .now) / 4 in
     let new : List ℕ = frameOctets (a .channels) (a .words .now) (a .commands .now) (a .level) in
-    let y = t .levels-after .result in
+    let y = t .levels-after2 .result in
     let n : length new ≡ needed (a .channels) (length (a .commands .now)) = length-octets (a .channels) (a .words .now) (a .commands .now) (a .level) (omega arith) in
     let e = last-block t in
     let small : y * 2 ^ (40 - 10 * k) < 2 ^ 64 =
     omega (arith, e, window-lt (levelled p) (40 * whole) 41) in
     let z : p .loop3 .b ≡ whole = omega arith in
     let w : 5 * whole + (10 * k + 7) / 8 ≡ needed (a .channels) (length (a .commands .now)) = omega arith in
-    c .before .before .store .ensures new (a .line .now) (omega (arith, n, w)) (omega (arith, w, start3 p .pre .6))
+    c .before .before .store2 .ensures new (a .line .now) (omega (arith, n, w)) (omega (arith, w, start3 p .pre .6))
     (λ i hi. octet-right (a .channels) (a .words .now) (a .commands .now) (a .level) (omega arith) whole i (y * 2 ^ (40 - 10 * k) % 2 ^ 64) (omega arith) (omega arith)
     (mod-eq-of-lt small ∙ e))
     (passed p ∙ ap (λ (m : ℕ). over (5 * m) new (a .line .now)) z)
@@ -357,8 +378,12 @@ fill-spec =
     add-b
     loop-less
     loop-again
+    mul-levels-after
+    add-levels-after
+    levels-after-requires
     loop2-holds
-    lay-requires-2
+    mul-store
+    store-requires
     add-b-2
     loop2-less
     loop2-again
@@ -366,22 +391,22 @@ fill-spec =
     sub-commands-from
     mul-commands-from
     commands-from-requires
-    lay-requires-3
+    lay-requires-2
     add-b-3
     loop3-less
     loop3-again
     mul-commands-from-2
     commands-from-requires-2
-    mul-levels-after
+    mul-levels-after-2
     shl-levels-after
-    add-levels-after
-    levels-after-requires
-    mul-store
+    add-levels-after-2
+    levels-after-requires-2
     mul-store-2
+    mul-store-3
     sub-store
     shl-store
-    mul-store-3
+    mul-store-4
     add-store
-    store-requires
+    store-requires-2
     same-length
     returns)
