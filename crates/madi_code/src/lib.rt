@@ -2,10 +2,10 @@
 // Reader and writer lay a table of groups out once and lend it for all channels of a frame.
 ghost use mathlib.Core.Path.{_≡_};
 ghost use Prim.Native.Nat.{_<_};
-ghost use Rattle.bits.specs.Row.{bigBits, bits, big};
+ghost use Rattle.bits.specs.Row.{bigBits, big};
 ghost use lib.ListN.{take};
 ghost use Rattle.madi_code.specs.Frame.{counted, synced};
-ghost use Rattle.madi_code.specs.Groups.{groupCode, commandCodes, commandOf, groupOf};
+ghost use Rattle.madi_code.specs.Groups.{groupCodes, commandCodes, commandOf, groupOf};
 ghost use Rattle.madi_code.specs.Channels.{channelRow, channelOf};
 ghost use Rattle.madi_code.specs.Inner.{eightGroups, wordByTable, channelBy, groupTable, meaningTable};
 
@@ -69,23 +69,24 @@ fn wide(x: u8) -> u64
 
 // ---- sent
 
-// The five-bit group of four bits that stand in a word.
-fn group_of(x: usize) -> u8
-    requires { ⌜ x < 16 ⌝ }
-    ensures { λ r. ⌜ r ≡ groupCode (big (bits 4 x)) ⌝ }
+// The document's table of groups.
+fn group_codes() -> [u8; 16]
+    ensures { λ r. ⌜ r ≡ groupCodes ⌝ }
 {
-    let d = TURNED[x];
-    GROUPS[d as usize]
+    GROUPS
 }
 
-// The table of groups, in the order of the four bits that stand in a word.
+// The table of groups, in the order of the four bits that stand in a word. Both constants are named once: each time that
+// one is named it is laid out anew.
 pub fn groups() -> [u8; 16]
     ensures { λ r. ⌜ r ≡ groupTable ⌝ }
 {
+    let codes = group_codes();
+    let turned = TURNED;
     let mut table = [0u8; 16];
     let mut x: usize = 0;
     while x < 16 {
-        table[x] = group_of(x);
+        table[x] = codes[turned[x] as usize];
         x += 1;
     }
     table
