@@ -28,15 +28,15 @@ fn sent_word(words: &[u32], b: usize) -> u32
     0
 }
 
-// The k commands of a list from the i-th on, at most four, the earliest highest. The table is that of commands.
-fn commands_from(codes: &[u16; 16], commands: &[u8], i: usize, k: usize) -> u64
-    requires { ⌜ (now codes ≡ commandCodes) × (k ≤ 4) × (i + k ≤ length (now commands)) × (numbered (now commands) ≡ true) ⌝ }
-    ensures { λ r. ⌜ r ≡ commandsNumber (now (commands .entry)) i k ⌝ }
+// The first k commands of the q-th four of a list, at most four, the earliest highest. The table is that of commands.
+fn commands_from(codes: &[u16; 16], commands: &[u8], q: usize, k: usize) -> u64
+    requires { ⌜ (now codes ≡ commandCodes) × (k ≤ 4) × (4 * q + k ≤ length (now commands)) × (numbered (now commands) ≡ true) ⌝ }
+    ensures { λ r. ⌜ r ≡ commandsNumber (now (commands .entry)) (4 * q) k ⌝ }
 {
     let mut x: u64 = 0;
     let mut j: usize = 0;
     while j < k {
-        x = x * 0x400 + codes[commands[i + j] as usize] as u64;
+        x = x * 0x400 + codes[commands[4 * q + j] as usize] as u64;
         j += 1;
     }
     x
@@ -101,12 +101,12 @@ fn fill(channels: usize, words: &[u32], commands: &[u8], level: u32, line: &mut 
         b += 1;
     }
     while b < whole {
-        let x = commands_from(&codes, commands, 4 * (b - channels), 4);
+        let x = commands_from(&codes, commands, b - channels, 4);
         last = lay(line, b, last, x);
         b += 1;
     }
     let k = commands.len() % 4;
-    let x = commands_from(&codes, commands, 4 * fours, k);
+    let x = commands_from(&codes, commands, fours, k);
     let y = levels_after((last << (10 * k)) + x);
     store(line, 5 * whole, y << (40 - 10 * k), (10 * k + 7) / 8);
 }

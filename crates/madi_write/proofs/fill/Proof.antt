@@ -189,9 +189,6 @@ loop3-holds c =
 sub-commands-from : tie.Need-sub-commands-from Inv-loop μ-loop Inv-loop2 μ-loop2 Inv-loop3 μ-loop3
 sub-commands-from c = omega arith
 
-mul-commands-from : tie.Need-mul-commands-from Inv-loop μ-loop Inv-loop2 μ-loop2 Inv-loop3 μ-loop3
-mul-commands-from c = omega arith
-
 commands-from-requires : tie.Need-commands-from-requires Inv-loop μ-loop Inv-loop2 μ-loop2 Inv-loop3 μ-loop3
 commands-from-requires c κs =
     let p = c .before .before in
@@ -262,9 +259,6 @@ module _ (p : tie.At-loop3 Inv-loop μ-loop Inv-loop2 μ-loop2 Inv-loop3 μ-loop
         shl-lt {a = p .loop3 .last} 1 (10 * k) (omega (arith, last-lt)),
         pow-mono {i = 1 + 10 * k} {j = 31} (omega arith),
       )
-
-mul-commands-from-2 : tie.Need-mul-commands-from-2 Inv-loop μ-loop Inv-loop2 μ-loop2 Inv-loop3 μ-loop3
-mul-commands-from-2 c = search needs
 
 commands-from-requires-2 : tie.Need-commands-from-requires-2 Inv-loop μ-loop Inv-loop2 μ-loop2 Inv-loop3 μ-loop3
 commands-from-requires-2 c κs =
@@ -389,13 +383,11 @@ fill-spec =
     loop2-again
     loop3-holds
     sub-commands-from
-    mul-commands-from
     commands-from-requires
     lay-requires-2
     add-b-3
     loop3-less
     loop3-again
-    mul-commands-from-2
     commands-from-requires-2
     mul-levels-after-2
     shl-levels-after
