@@ -4,12 +4,12 @@ use mathlib.Core.List.{List}
 use Prim.Native.Nat.{ℕ, _≤_}
 use native.Mathlib.Omega.{arith}
 use borrow.Author.Needs.{needs}
-use lib.ListN.{length}
+use lib.ListN.{length, drop}
 use Rattle.answer.specs.Answer.{Answer.accepted}
 use Rattle.answer.specs.Said.{numberSaid}
 use Rattle.answer.specs.declared.NumberAnswer.{NumberAnswer}
 use Rattle.answer.specs.declared.NumberAnswer.the-variants.{Number}
-use Rattle.records.specs.Record.{kindOf, byKind}
+use Rattle.records.specs.Record.{outcomeSaid, kindOf, byKind}
 use Rattle.records.proofs.RecordLaws.{to-the-end, kind-refused, kind-within, kind-known}
 use Rattle.records.proofs.judge.Statement.{statement}
 use Rattle.records.proofs.judge.Tie as tie
@@ -48,14 +48,21 @@ by-kind-requires c κs = search needs
 enum-known-number : tie.Need-enum-known-number
 enum-known-number c = search needs
 
+-- what was called with the payload and its kind; no law of the record is asked here, so that its own fault shows
+module _ (c : tie.After-by-kind) where
+  abbrev body : List ℕ
+  body = c .before .before .before .before .before .before .before .args .body .now
+
+  abbrev kind : ℕ
+  kind = c .before .before .before .kind .given .0 .0
+
+  of-payload : outcomeSaid (c .by-kind .result) ≡ byKind kind (drop 2 body)
+  of-payload = c .by-kind .ensures ∙ ap (byKind kind) (to-the-end 2 body)
+
 returns : tie.Need-returns
 returns c =
     let k = c .before .before .before in
-    let q = k .before .before in
-    let body = q .before .before .args .body .now in
-    c .by-kind .ensures
-    ∙ ap (byKind (k .kind .given .0 .0)) (to-the-end 2 body)
-    ∙ sym (kind-known body (k .kind .given .0 .0) (known body (q .kind-of .ensures) (k .kind .given .1)))
+    of-payload c ∙ sym (kind-known (body c) (kind c) (known (body c) (k .before .before .kind-of .ensures) (k .kind .given .1)))
 
 returns-2 : tie.Need-returns-2
 returns-2 c =
