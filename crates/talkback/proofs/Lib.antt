@@ -1,3 +1,4 @@
+pub mod Raising
 pub mod Samples
 pub mod Blocks
 pub mod Demands

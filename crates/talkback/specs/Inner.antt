@@ -1,6 +1,6 @@
 -- What inner functions of the crate are held to. Assumes nothing.
 use mathlib.Core.Path.{_≡_}
-use Prim.Native.Nat.{ℕ, _+_, _/_, _%_, _^_, _<_}
+use Prim.Native.Nat.{ℕ, _+_, _*_, _/_, _%_, _^_, _<_, _≤_}
 use mathlib.Core.Bool.{Bool, true, not, _&&_}
 use mathlib.Core.List.{List}
 use lib.Dec.{ltb}
@@ -17,6 +17,14 @@ fitting half free z = ltb (mag z) half && ltb (auxiliary z) free
 -- sample i does not fit
 unfoldable pub unfitting : ℕ → ℕ → List ℤ → ℕ → Bool
 unfitting half free samples i = not (fitting half free (getD samples i (pos 0)))
+
+-- x is what is left in 32 bits of a sample moved up by half its range
+abbrev pub Raises : ℕ → ℤ → ℕ → Type 0
+Raises half z x = (x < 2 * half → mag z < half) × (mag z < half → auxiliary z ≡ x % 2 ^ 4)
+
+-- none of the first n samples, raised, is above `all`, nor has more than `all` in slots 4 to 7
+abbrev pub Unites : ℕ → List ℤ → ℕ → ℕ → Type 0
+Unites half samples n all = (i : ℕ) → i < n → (x : ℕ) × Raises half (getD samples i (pos 0)) x × (x ≤ all) × (x % 2 ^ 4 ≤ all % 2 ^ 4)
 
 -- every sample is one of 24 bits, the lowest four 0
 abbrev pub Programs : List ℤ → Type 0

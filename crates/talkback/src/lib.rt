@@ -2,7 +2,7 @@
 // 27, and separated from it.
 ghost use mathlib.Core.Path.{_≡_};
 ghost use mathlib.Core.Bool.{true};
-ghost use Prim.Native.Nat.{_+_, _*_, _^_, _<_, _≤_};
+ghost use Prim.Native.Nat.{_+_, _*_, _%_, _^_, _<_, _≤_};
 ghost use lib.IntN.{pos};
 ghost use lib.ListN.{length, getD};
 ghost use lib.Signed.{mag};
@@ -13,7 +13,7 @@ ghost use Rattle.answer.specs.Said.{verdictSaid};
 ghost use Rattle.subframe.specs.Signed.{inRange, codeOf, signedOf};
 ghost use Rattle.block.specs.Side.{sideLength};
 ghost use Rattle.talkback.specs.Talkback.{auxiliary, main, sampleWith, voiceWith, subframeWith, withVoice, programOf, voiceOf, undeclared, useDemands, voiceJoinAnswer, separateAnswer};
-ghost use Rattle.talkback.specs.Inner.{fitting, unfitting, Programs, AllIn, frameSet, threeSet};
+ghost use Rattle.talkback.specs.Inner.{fitting, unfitting, Raises, Unites, Programs, AllIn, frameSet, threeSet};
 use answer::Verdict;
 use block::C;
 use block::COLUMN;
@@ -96,11 +96,42 @@ fn signed(code: u32) -> i32
 
 // ---- what is refused
 
-// The first sample that does not fit, or the number of samples.
+// A sample moved up by half its range, in 32 bits: below the whole range exactly if the sample is in it, and slots 4 to 7
+// stay.
+fn raised(sample: i32, half: u32) -> u32
+    requires { ⌜ (half ≤ 2 ^ 23) × (half % 2 ^ 4 ≡ 0) ⌝ }
+    ensures { λ r. ⌜ Raises half sample r ⌝ }
+{
+    let moved = (sample as i64 + (0x1_0000_0000 + half as i64)) as u64;
+    (moved % 0x1_0000_0000) as u32
+}
+
+// The bits that are 1 in some raised sample: one pass with no branch on a sample, so that several are taken at once.
+fn united(samples: &[i32], half: u32) -> u32
+    requires { ⌜ (half ≤ 2 ^ 23) × (half % 2 ^ 4 ≡ 0) ⌝ }
+    ensures { λ r. ⌜ Unites half (now (samples .entry)) (length (now (samples .entry))) r ⌝ }
+{
+    let mut all: u32 = 0;
+    let mut i: usize = 0;
+    while i < samples.len() {
+        let x = samples[i];
+        all = all | raised(x, half);
+        i += 1;
+    }
+    all
+}
+
+// The first sample that does not fit, or the number of samples: searched only where the bits of all together do not fit.
 fn first_unfitting(samples: &[i32], half: u32, free: u32) -> usize
-    requires { ⌜ half ≤ 2 ^ 23 ⌝ }
+    requires { ⌜ (half ≤ 2 ^ 23) × (half % 2 ^ 4 ≡ 0) ⌝ }
     ensures { λ r. ⌜ r ≡ first (unfitting half free (now (samples .entry))) 0 (length (now (samples .entry))) (λ i. i) (length (now (samples .entry))) ⌝ }
 {
+    let all = united(samples, half);
+    if all < 2 * half {
+        if all % STATES < free {
+            return samples.len();
+        }
+    }
     let mut i: usize = 0;
     while i < samples.len() {
         let x = samples[i];
