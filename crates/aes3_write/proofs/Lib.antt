@@ -1,5 +1,6 @@
+pub mod Flags
+pub mod Inverting
 pub mod Writing
 pub mod LineWriting
 pub mod BlockWriting
-pub mod Flags
 pub mod Residue

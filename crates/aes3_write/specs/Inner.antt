@@ -1,9 +1,10 @@
 -- Clauses that only inner functions need. Assumes nothing.
-use Prim.Native.Nat.{ℕ, zero, suc, _+_, _*_, _^_}
-use mathlib.Core.Bool.{Bool, false}
+use Prim.Native.Nat.{ℕ, zero, suc, _+_, _-_, _*_, _/_, _^_}
+use mathlib.Core.Bool.{Bool, false, xor}
 use mathlib.Core.List.{List, _++_}
 use lib.ListN.{getD}
-use Rattle.bits.specs.Row.{Row, bit, bigBits}
+use Rattle.bits.specs.Pick.{pick}
+use Rattle.bits.specs.Row.{Row, odd, bit, bigBits}
 use Rattle.bits.specs.Listed.{listed}
 use Rattle.line.specs.Preamble.{afterLevel}
 use Rattle.line.specs.Biphase.{biphase}
@@ -14,6 +15,22 @@ use Rattle.block.specs.Block.{sideAt}
 -- the 64 symbols of a body behind the octet m of a preamble, after a level
 unfoldable pub opened : ℕ → Bool → ℕ → Row
 opened m l body = afterLevel l (bigBits 8 m ++ biphase false (slots body))
+
+-- 64 symbols that are written for level 0 as a number, after a level
+unfoldable pub wordAfter : Bool → ℕ → ℕ
+wordAfter l w = pick l (2 ^ 64 - 1 - w) w
+
+-- what inverts n symbols after a level, by exclusive or
+abbrev pub inverter : ℕ → Bool → ℕ
+inverter n l = pick l (2 ^ n - 1) 0
+
+-- the same of the 40 symbols behind the first of three entries, where a, b and c are the levels that the three leave by
+-- themselves: behind each entry stands the exclusive or of those up to it
+unfoldable pub inverters : Bool → Bool → Bool → ℕ
+inverters a b c = inverter 16 a * 2 ^ 24 + (inverter 16 (xor b a) * 2 ^ 8 + inverter 8 (xor c (xor b a)))
+
+unfoldable pub invertersTable : List ℕ
+invertersTable = listed 0 8 (λ x. inverters (odd (x / 4)) (odd (x / 2)) (odd x))
 
 -- the body of a sample's 24 bits, and of V, U and C at weights 1, 2 and 4
 unfoldable pub bodyWith : ℕ → ℕ → ℕ

@@ -2,22 +2,22 @@
 ghost use mathlib.Core.Path.{_≡_};
 ghost use mathlib.Core.List.{_++_};
 ghost use mathlib.Core.Bool.{true, false};
-ghost use Prim.Native.Nat.{_+_, _*_, _<_};
+ghost use Prim.Native.Nat.{_+_, _*_, _/_, _%_, _^_, _<_};
 ghost use lib.IntN.{pos};
 ghost use lib.ListN.{length, drop, getD};
-ghost use Rattle.bits.specs.Pick.{pick};
-ghost use Rattle.bits.specs.Row.{odd, bits, bigBits, big};
+ghost use Rattle.bits.specs.Row.{odd, bigBits, big};
 ghost use Rattle.bits.specs.Pack.{octets};
 ghost use Rattle.answer.specs.Answer.{Answer.accepted, verdict, rewritten};
 ghost use Rattle.answer.specs.Said.{verdictSaid};
 ghost use Rattle.line.specs.Biphase.{biphase, biphaseTable};
 ghost use Rattle.subframe.specs.Signed.{inRange, codeOf};
+ghost use Rattle.subframe.specs.Body.{slots, parityOf};
 ghost use Rattle.block.specs.Side.{columnLength, sideLength};
 ghost use Rattle.block.specs.Block.{bodiesOf};
 ghost use Rattle.block.specs.Check.{checked};
 ghost use Rattle.aes3_line.specs.Line.{lineFrom};
 ghost use Rattle.aes3_write.specs.Writer.{blockLine, writeAnswer};
-ghost use Rattle.aes3_write.specs.Inner.{opened, bodyWith, flagsFrom, spread, spreadTable, eightFlags};
+ghost use Rattle.aes3_write.specs.Inner.{inverters, invertersTable, opened, wordAfter, bodyWith, flagsFrom, spread, spreadTable, eightFlags};
 
 mod tables;
 
@@ -30,38 +30,50 @@ use block::COLUMN;
 use block::SIDE;
 use block::U;
 use block::V;
+use tables::INVERTERS;
 use tables::SPREAD;
 
-// Sixteen ones after symbols whose last is 1, else none: a mask, since a branch on a symbol would go wrong every other
-// time.
-fn sixteen_ones(before: u64) -> u64
-    ensures { λ r. ⌜ r ≡ pick (odd before) 65535 0 ⌝ }
+// An entry of the table of biphase codings.
+fn entry(table: &[u16], d: u32) -> u64
+    requires { ⌜ (now table ≡ biphaseTable) × (d < 256) ⌝ }
+    ensures { λ r. ⌜ (r ≡ getD biphaseTable d 0) × (r < 65536) ⌝ }
 {
-    std::num::wrapping_sub_u64(0, before % 2) % 65536
+    table[d as usize] as u64
 }
 
-// The sixteen symbols of eight slots that hold the lowest bits of d, lowest first, after symbols whose last is the
-// lowest bit of `before`: an entry of the table, inverted after a 1.
-fn eight(table: &[u16], before: u64, d: u32) -> u64
-    requires { ⌜ now table ≡ biphaseTable ⌝ }
-    ensures { λ r. ⌜ (r ≡ big (biphase (odd before) (bits 8 d))) × (r < 65536) ⌝ }
+// What inverts the symbols behind the first sixteen of 56 where those before them leave level 1: u holds the three entries
+// that they begin with, each for level 0, and the lowest bit of an entry inverts all behind it. The three bits come side
+// by side by one multiplication: a test of each would take two instructions more, and a branch go wrong every other time.
+fn inverters_of(table: &[u64], u: u64) -> u64
+    requires { ⌜ (now table ≡ invertersTable) × (u < 2 ^ 48) ⌝ }
+    ensures { λ r. ⌜ r ≡ inverters (odd (u / 2 ^ 32)) (odd (u / 2 ^ 16)) (odd u) ⌝ }
 {
-    let at = (d % 256) as usize;
-    let s = table[at] as u64;
-    s ^ sixteen_ones(before)
+    let last = u & 0x1_0001_0001;
+    table[(last * 0x8001_0002 / 0x8000_0000 % 8) as usize]
 }
 
-// The 64 symbols of a subframe after level 0, the first highest: the octet m of its preamble, slots 4 to 27 of its body by
-// three entries of the table, and slots 28 to 31 by the first eight symbols of the entry of V, U, C and P.
-fn subframe_word(table: &[u16], m: u64, body: u32) -> u64
-    requires { ⌜ (now table ≡ biphaseTable) × (m < 256) ⌝ }
-    ensures { λ r. ⌜ r ≡ big (opened m false body) ⌝ }
+// Slots 28 to 31 of a body: V, U and C, at weights 1, 2 and 4, and P. The order in which the bits are handed to `parity`
+// does not change how many of them are ones.
+fn last_slots(code: u32, flags: u32) -> u32
+    requires { ⌜ (code < 2 ^ 24) × (flags < 8) ⌝ }
+    ensures { λ r. ⌜ (r ≡ flags + parityOf (code * 2 ^ 4 + flags * 2 ^ 28) * 8) × (r < 16) ⌝ }
 {
-    let a = eight(table, 0, body / 0x10);
-    let b = eight(table, a, body / 0x1000);
-    let c = eight(table, b, body / 0x10_0000);
-    let d = eight(table, c, body / 0x1000_0000);
-    (((m * 65536 + a) * 65536 + b) * 65536 + c) * 256 + d / 256
+    flags + subframe::parity(code * 256 + flags * 16) * 8
+}
+
+// The 56 symbols of a body after level 0, the first highest, from a sample's 24 bits and from V, U and C: three entries of
+// the table, and slots 28 to 31 by the first eight symbols of an entry.
+fn slots_word(table: &[u16], inverting: &[u64], code: u32, flags: u32) -> u64
+    requires { ⌜ (now table ≡ biphaseTable) × (now inverting ≡ invertersTable) × (code < 2 ^ 24) × (flags < 8) ⌝ }
+    ensures { λ r. ⌜ (r ≡ big (biphase false (slots (bodyWith code flags)))) × (r < 2 ^ 56) ⌝ }
+{
+    let a = entry(table, code % 256);
+    let b = entry(table, code / 256 % 256);
+    let c = entry(table, code / 65536);
+    let d = entry(table, last_slots(code, flags));
+    let u = (a * 65536 + b) * 65536 + c;
+    let v = inverters_of(inverting, u);
+    (u * 256 + d / 256) ^ v
 }
 
 // 64 symbols into eight octets.
@@ -79,24 +91,15 @@ fn lay(w: u64, part: &mut [u8])
     part[7] = (w % 256) as u8;
 }
 
-// A subframe into eight octets.
-fn write_subframe(table: &[u16], m: u64, level: u32, body: u32, part: &mut [u8])
-    requires { ⌜ (now table ≡ biphaseTable) × (m < 256) × (level < 2) × (length (now part) ≡ 8) ⌝ }
-    ensures { λ _. ⌜ now (part .exit) ≡ octets 8 (opened m (odd level) body) ⌝ }
+// A subframe into eight octets: the octet m of its preamble and the 56 symbols w, after a level.
+fn write_subframe(m: u64, level: u32, w: u64, part: &mut [u8])
+    requires { ⌜ (m < 256) × (w < 2 ^ 56) × (length (now part) ≡ 8) ⌝ }
+    ensures { λ _. ⌜ now (part .exit) ≡ octets 8 (bigBits 64 (wordAfter (odd level) (m * 2 ^ 56 + w))) ⌝ }
 {
     lay(
-        aes3_line::after_level(level, subframe_word(table, m, body)),
+        aes3_line::after_level(level, m * 0x100_0000_0000_0000 + w),
         part,
     );
-}
-
-// A frame into sixteen octets: m opens its first subframe, Y its second.
-fn write_frame(table: &[u16], m: u64, level: u32, a: u32, b: u32, part: &mut [u8])
-    requires { ⌜ (now table ≡ biphaseTable) × (m < 256) × (level < 2) × (length (now part) ≡ 16) ⌝ }
-    ensures { λ _. ⌜ now (part .exit) ≡ octets 8 (opened m (odd level) a) ++ octets 8 (opened 0b11100100 (odd level) b) ⌝ }
-{
-    write_subframe(table, m, level, a, &mut part[0..8]);
-    write_subframe(table, Y as u64, level, b, &mut part[8..16]);
 }
 
 // The 24 bits of a sample.
@@ -139,21 +142,41 @@ fn sixteen(spreads: &[u32], side: &[u8], j: usize) -> u64
     a + b * 16
 }
 
-// Body i of a block, from V, U and C at weights 1, 2 and 4: slots 4 to 30, and their parity in slot 31.
-fn body_at(samples: &[i32], i: usize, flags: u64) -> u32
-    requires { ⌜ (length (now samples) ≡ 384) × (i < 384) × (inRange 24 (getD (now samples) i (pos 0)) ≡ true) × (flags < 8) ⌝ }
-    ensures { λ r. ⌜ r ≡ bodyWith (codeOf 24 (getD (now (samples .entry)) i (pos 0))) flags ⌝ }
+// The 56 symbols of body i of a block after level 0, from V, U and C at weights 1, 2 and 4.
+fn slots_at(table: &[u16], inverting: &[u64], samples: &[i32], i: usize, flags: u64) -> u64
+    requires { ⌜ (now table ≡ biphaseTable) × (now inverting ≡ invertersTable) × (length (now samples) ≡ 384) × (i < 384) × (inRange 24 (getD (now samples) i (pos 0)) ≡ true) × (flags < 8) ⌝ }
+    ensures { λ r. ⌜ (r ≡ big (biphase false (slots (bodyWith (codeOf 24 (getD (now (samples .entry)) i (pos 0))) flags)))) × (r < 2 ^ 56) ⌝ }
 {
     let x = samples[i];
-    let low = code(x) + flags as u32 * 0x100_0000;
-    let slots = low + subframe::parity(low * 16) * 0x800_0000;
-    slots * 16
+    slots_word(table, inverting, code(x), flags as u32)
+}
+
+// A frame into sixteen octets, from subframe i on: m opens its first subframe, Y its second. The first is laid before the
+// second is made: eight octets are then stored at once.
+fn write_frame(
+    table: &[u16],
+    inverting: &[u64],
+    samples: &[i32],
+    i: usize,
+    flags: u64,
+    m: u64,
+    level: u32,
+    part: &mut [u8],
+)
+    requires { ⌜ (now table ≡ biphaseTable) × (now inverting ≡ invertersTable) × (length (now samples) ≡ 384) × (i + 1 < 384) × (inRange 24 (getD (now samples) i (pos 0)) ≡ true) × (inRange 24 (getD (now samples) (i + 1) (pos 0)) ≡ true) × (m < 256) × (length (now part) ≡ 16) ⌝ }
+    ensures { λ _. ⌜ now (part .exit) ≡ octets 8 (opened m (odd level) (bodyWith (codeOf 24 (getD (now (samples .entry)) i (pos 0))) (flags % 8))) ++ octets 8 (opened 0b11100100 (odd level) (bodyWith (codeOf 24 (getD (now (samples .entry)) (i + 1) (pos 0))) (flags / 16 % 8))) ⌝ }
+{
+    let v = slots_at(table, inverting, samples, i, flags % 8);
+    write_subframe(m, level, v, &mut part[0..8]);
+    let w = slots_at(table, inverting, samples, i + 1, flags / 16 % 8);
+    write_subframe(Y as u64, level, w, &mut part[8..16]);
 }
 
 // The sixteen subframes from 16 j on of a block that is sound: with the rest of the line behind them they are the line
 // from there on.
 fn write_sixteen(
     table: &[u16],
+    inverting: &[u64],
     spreads: &[u32],
     samples: &[i32],
     side: &[u8],
@@ -161,7 +184,7 @@ fn write_sixteen(
     level: u32,
     part: &mut [u8],
 )
-    requires { ⌜ (now table ≡ biphaseTable) × (now spreads ≡ spreadTable) × (checked (now samples) (now side) ≡ accepted tt) × (length (now samples) ≡ 384) × (length (now side) ≡ sideLength) × (j < columnLength) × (level < 2) × (length (now part) ≡ 128) ⌝ }
+    requires { ⌜ (now table ≡ biphaseTable) × (now inverting ≡ invertersTable) × (now spreads ≡ spreadTable) × (checked (now samples) (now side) ≡ accepted tt) × (length (now samples) ≡ 384) × (length (now side) ≡ sideLength) × (j < columnLength) × (level < 2) × (length (now part) ≡ 128) ⌝ }
     ensures { λ _. ⌜ now (part .exit) ++ lineFrom (16 * j + 16) (odd level) (drop (16 * j + 16) (bodiesOf (now (samples .entry)) (now (side .entry)))) ≡ lineFrom (16 * j) (odd level) (drop (16 * j) (bodiesOf (now (samples .entry)) (now (side .entry)))) ⌝ }
 {
     let mut left = sixteen(spreads, side, j);
@@ -169,11 +192,18 @@ fn write_sixteen(
     let mut f: usize = 0;
     while f < 8 {
         let i = 16 * j + 2 * f;
-        let a = body_at(samples, i, left % 8);
-        let b = body_at(samples, i + 1, left / 16 % 8);
         let s = f * 16;
         let e = s + 16;
-        write_frame(table, m, level, a, b, &mut part[s..e]);
+        write_frame(
+            table,
+            inverting,
+            samples,
+            i,
+            left,
+            m,
+            level,
+            &mut part[s..e],
+        );
         m = X as u64;
         left = left / 256;
         f += 1;
@@ -183,20 +213,30 @@ fn write_sixteen(
 // All subframes of a block that is sound into its line.
 fn write_line(
     table: &[u16],
+    inverting: &[u64],
     spreads: &[u32],
     samples: &[i32],
     side: &[u8],
     level: u32,
     line: &mut [u8],
 )
-    requires { ⌜ (now table ≡ biphaseTable) × (now spreads ≡ spreadTable) × (checked (now samples) (now side) ≡ accepted tt) × (length (now samples) ≡ 384) × (length (now side) ≡ sideLength) × (level < 2) × (length (now line) ≡ 3072) ⌝ }
+    requires { ⌜ (now table ≡ biphaseTable) × (now inverting ≡ invertersTable) × (now spreads ≡ spreadTable) × (checked (now samples) (now side) ≡ accepted tt) × (length (now samples) ≡ 384) × (length (now side) ≡ sideLength) × (level < 2) × (length (now line) ≡ 3072) ⌝ }
     ensures { λ _. ⌜ now (line .exit) ≡ blockLine (now (samples .entry)) (now (side .entry)) level ⌝ }
 {
     let mut j: usize = 0;
     while j < COLUMN {
         let a = j * 128;
         let e = a + 128;
-        write_sixteen(table, spreads, samples, side, j, level, &mut line[a..e]);
+        write_sixteen(
+            table,
+            inverting,
+            spreads,
+            samples,
+            side,
+            j,
+            level,
+            &mut line[a..e],
+        );
         j += 1;
     }
 }
@@ -207,8 +247,9 @@ fn write_sound(samples: &[i32], side: &[u8], level: u32, line: &mut [u8])
     ensures { λ _. ⌜ now (line .exit) ≡ blockLine (now (samples .entry)) (now (side .entry)) level ⌝ }
 {
     let table = line::biphase_codings();
+    let inverting = INVERTERS;
     let spreads = SPREAD;
-    write_line(&table, &spreads, samples, side, level, line);
+    write_line(&table, &inverting, &spreads, samples, side, level, line);
 }
 
 // Writes a block after a level. A refusal leaves the line as it was.

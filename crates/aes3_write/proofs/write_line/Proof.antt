@@ -19,13 +19,13 @@ use Rattle.aes3_write.proofs.write_line.Statement.{statement}
 use Rattle.aes3_write.proofs.write_line.Tie as tie
 
 abbrev Inv-loop : tie.InvT-loop
-Inv-loop table spreads samples side level line₀ j₀ line j =
+Inv-loop table inverting spreads samples side level line₀ j₀ line j =
     (j ≤ columnLength)
     × (length line ≡ 3072)
     × (take (j * 128) line ++ lineFrom (16 * j) (odd level) (drop (16 * j) (bodiesOf samples side)) ≡ blockLine samples side level)
 
 abbrev μ-loop : tie.MeasureT-loop
-μ-loop table spreads samples side level line₀ j₀ line j = columnLength - j
+μ-loop table inverting spreads samples side level line₀ j₀ line j = columnLength - j
 
 loop-holds : tie.Need-loop-holds Inv-loop μ-loop
 unfolding blockLine
@@ -48,8 +48,8 @@ part-write-sixteen-end c = omega arith
 
 write-sixteen-requires : tie.Need-write-sixteen-requires Inv-loop μ-loop
 write-sixteen-requires c κs =
-    let start = c .before .before .before .before .before .before .before in
-    (start .pre .0, start .pre .1, start .pre .2, start .pre .3, start .pre .4, omega arith, start .pre .5, search needs)
+    let start = c .before .before .before .before .before .before .before .before in
+    (start .pre .0, start .pre .1, start .pre .2, start .pre .3, start .pre .4, start .pre .5, omega arith, start .pre .6, search needs)
 
 add-j : tie.Need-add-j Inv-loop μ-loop
 add-j c = omega arith
@@ -61,11 +61,11 @@ loop-again : tie.Need-loop-again Inv-loop μ-loop
 loop-again c =
     let at = c .before .before .before .before .before in
     let loop = at .loop in
-    let start = at .before .before .before .before .before in
+    let start = at .before .before .before .before .before .before in
     let a = start .args in
     let wrote = c .before .before .write-sixteen in
-    let o = wrote .last .1 .1 .1 .1 .1 .1 .0 in
-    let kept = wrote .kept .1 .1 .1 .1 .1 .1 .0 in
+    let o = wrote .last .1 .1 .1 .1 .1 .1 .1 .0 in
+    let kept = wrote .kept .1 .1 .1 .1 .1 .1 .1 .0 in
     let bodies = bodiesOf (a .samples .now) (a .side .now) in
     let rest = lineFrom (16 * loop .j + 16) (odd (a .level)) (drop (16 * loop .j + 16) bodies) in
     let t : loop .j < columnLength = c .before .before .before .before .loop-test .taken in
@@ -84,7 +84,7 @@ same-length c = omega arith
 returns : tie.Need-returns Inv-loop μ-loop
 returns c =
     let loop = c .before .loop in
-    let start = c .before .before .before .before .before .before in
+    let start = c .before .before .before .before .before .before .before in
     let a = start .args in
     let n : length (bodiesOf (a .samples .now) (a .side .now)) ≡ 384 = length-bodies (a .samples .now) (a .side .now) in
     all-written (loop .line) (bodiesOf (a .samples .now) (a .side .now)) _ (16 * loop .j) (loop .j * 128) (odd (a .level)) (omega arith) (omega arith) (loop .inv .2)

@@ -1,6 +1,7 @@
 -- `aes3_write::write_sound` meets its contract: the tables are as they should be. Assumes nothing.
 use borrow.Author.Needs.{needs}
 use Rattle.aes3_write.proofs.Flags.{spreads, spreads-right}
+use Rattle.aes3_write.proofs.Inverting.{invertings, invertings-right}
 use Rattle.aes3_write.proofs.write_sound.Statement.{statement}
 use Rattle.aes3_write.proofs.write_sound.Tie as tie
 
@@ -13,12 +14,15 @@ slice-aggregate-write-line c = search needs
 slice-aggregate-write-line-2 : tie.Need-slice-aggregate-write-line-2
 slice-aggregate-write-line-2 c = search needs
 
+slice-aggregate-write-line-3 : tie.Need-slice-aggregate-write-line-3
+slice-aggregate-write-line-3 c = search needs
+
 write-line-requires : tie.Need-write-line-requires
-unfolding spreads
+unfolding spreads invertings
 write-line-requires c κs =
-    let made = c .before .before .before in
+    let made = c .before .before .before .before in
     let start = made .before .before .before in
-    (made .biphase-codings .ensures, spreads-right, start .pre .0, start .pre .1, start .pre .2, start .pre .3, start .pre .4)
+    (made .biphase-codings .ensures, invertings-right, spreads-right, start .pre .0, start .pre .1, start .pre .2, start .pre .3, start .pre .4)
 
 same-length : tie.Need-same-length
 same-length c = search needs
@@ -33,6 +37,7 @@ write-sound-spec =
     biphase-codings-requires
     slice-aggregate-write-line
     slice-aggregate-write-line-2
+    slice-aggregate-write-line-3
     write-line-requires
     same-length
     returns)
