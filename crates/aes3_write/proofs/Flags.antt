@@ -8,8 +8,6 @@ use native.Mathlib.Numerals.{add-one}
 use lib.IntN.{ℤ, pos}
 use lib.ListN.{length, getD}
 use Rattle.bits.specs.Row.{bit}
-use Rattle.bits.specs.Listed.{listed}
-use Rattle.bits.proofs.Every.{agree}
 use Rattle.bits.proofs.Lists.{length-listed, getD-listed}
 use Rattle.subframe.specs.Signed.{inRange, codeOf}
 use Rattle.subframe.specs.Body.{parityOf}
@@ -21,33 +19,17 @@ use Rattle.aes3_write.specs.Inner.{bodyWith, flags, flagsFrom, spread, s
 
 -- ---- an octet's bits apart
 
-unfoldable pub spreads : List ℕ
-spreads = 0 ∷ 1 ∷ 256 ∷ 257 ∷ 65536 ∷ 65537 ∷ 65792 ∷ 65793 ∷ 16777216 ∷ 16777217 ∷ 16777472 ∷ 16777473 ∷ 16842752 ∷ 16842753 ∷ 16843008 ∷ 16843009 ∷ []
-
-pub spreads-right : spreads ≡ spreadTable
-unfolding spreads spreadTable listed
-spreads-right = refl
-
-pub length-spreads : length spreadTable ≡ 16
+pub length-spreads : length spreadTable ≡ 256
 unfolding spreadTable
-length-spreads = length-listed 0 16 (λ x. bit 0 x + bit 1 x * 2 ^ 8 + bit 2 x * 2 ^ 16 + bit 3 x * 2 ^ 24)
+length-spreads = length-listed 0 256 spread
 
-abbrev four : ℕ → ℕ
-four x = bit 0 x + bit 1 x * 2 ^ 8 + bit 2 x * 2 ^ 16 + bit 3 x * 2 ^ 24
+pub spread-at : (o : ℕ) → o < 256 → getD spreadTable o 0 ≡ spread o
+unfolding spreadTable
+spread-at o h = getD-listed 256 spread o 0 h
 
-module _ (table : List ℕ) (t : table ≡ spreadTable) where
-  at-four : (x : ℕ) → x < 16 → getD table x 0 ≡ four x
-  unfolding spreadTable
-  at-four x h = ap (λ (l : List ℕ). getD l x 0) t ∙ getD-listed 16 (λ x. bit 0 x + bit 1 x * 2 ^ 8 + bit 2 x * 2 ^ 16 + bit 3 x * 2 ^ 24) x 0 h
-
-  pub four-lt : (x : ℕ) → x < 16 → getD table x 0 < 16843010
-  four-lt x h = omega (arith, at-four x h)
-
-  pub spread-at : (o : ℕ) → o < 256 → getD table (o % 16) 0 + getD table (o / 16) 0 * 4294967296 ≡ spread o
-  unfolding spread
-  spread-at o h =
-      ap₂ (λ (a b : ℕ). a + b * 4294967296) (at-four (o % 16) (omega arith)) (at-four (o / 16) (omega arith))
-      ∙ agree 256 (λ o. four (o % 16) + four (o / 16) * 4294967296) spread tt o h
+pub spread-lt : (o : ℕ) → spread o < 72340172838076674
+unfolding spread
+spread-lt o = omega arith
 
 -- ---- sixteen subframes
 

@@ -49,9 +49,9 @@ flagsFrom side i (suc n) = flags side i + 16 * flagsFrom side (suc i) n
 unfoldable pub spread : ℕ → ℕ
 spread o = bit 0 o + bit 1 o * 2 ^ 8 + bit 2 o * 2 ^ 16 + bit 3 o * 2 ^ 24 + bit 4 o * 2 ^ 32 + bit 5 o * 2 ^ 40 + bit 6 o * 2 ^ 48 + bit 7 o * 2 ^ 56
 
--- the same of each number below 16
+-- the same of each octet
 unfoldable pub spreadTable : List ℕ
-spreadTable = listed 0 16 (λ x. bit 0 x + bit 1 x * 2 ^ 8 + bit 2 x * 2 ^ 16 + bit 3 x * 2 ^ 24)
+spreadTable = listed 0 256 spread
 
 -- octet j of a column of a channel
 unfoldable pub octetIn : List ℕ → ℕ → ℕ → ℕ → ℕ

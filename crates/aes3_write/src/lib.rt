@@ -110,18 +110,23 @@ fn code(sample: i32) -> u32
     ((sample + 16777216) as u32) % 16777216
 }
 
+// The table that spreads the bits of an octet, for an operation that lays it out once and lends it to its loops.
+fn spreads_by_octet() -> [u64; 256]
+    ensures { λ r. ⌜ r ≡ spreadTable ⌝ }
+{
+    SPREAD
+}
+
 // The bits of an octet at weights 1, 2^8, 2^16 and so on.
-fn spread_octet(spreads: &[u32], o: u8) -> u64
+fn spread_octet(spreads: &[u64], o: u8) -> u64
     requires { ⌜ now spreads ≡ spreadTable ⌝ }
     ensures { λ r. ⌜ (r ≡ spread o) × (r < 72340172838076674) ⌝ }
 {
-    let low = spreads[(o % 16) as usize] as u64;
-    let high = spreads[(o / 16) as usize] as u64;
-    low + high * 4294967296
+    spreads[o as usize]
 }
 
 // V, U and C of eight frames of a channel from frame 8 j on.
-fn eight_flags(spreads: &[u32], side: &[u8], channel: usize, j: usize) -> u64
+fn eight_flags(spreads: &[u64], side: &[u8], channel: usize, j: usize) -> u64
     requires { ⌜ (now spreads ≡ spreadTable) × (length (now side) ≡ sideLength) × (channel < 2) × (j < columnLength) ⌝ }
     ensures { λ r. ⌜ (r ≡ eightFlags (now (side .entry)) channel j) × (r < 506381209866536712) ⌝ }
 {
@@ -133,7 +138,7 @@ fn eight_flags(spreads: &[u32], side: &[u8], channel: usize, j: usize) -> u64
 }
 
 // V, U and C of the sixteen subframes from 16 j on, at weights 1, 16 and so on.
-fn sixteen(spreads: &[u32], side: &[u8], j: usize) -> u64
+fn sixteen(spreads: &[u64], side: &[u8], j: usize) -> u64
     requires { ⌜ (now spreads ≡ spreadTable) × (length (now side) ≡ sideLength) × (j < columnLength) ⌝ }
     ensures { λ r. ⌜ r ≡ flagsFrom (now (side .entry)) (16 * j) 16 ⌝ }
 {
@@ -177,7 +182,7 @@ fn write_frame(
 fn write_sixteen(
     table: &[u16],
     inverting: &[u64],
-    spreads: &[u32],
+    spreads: &[u64],
     samples: &[i32],
     side: &[u8],
     j: usize,
@@ -214,7 +219,7 @@ fn write_sixteen(
 fn write_line(
     table: &[u16],
     inverting: &[u64],
-    spreads: &[u32],
+    spreads: &[u64],
     samples: &[i32],
     side: &[u8],
     level: u32,
@@ -248,7 +253,7 @@ fn write_sound(samples: &[i32], side: &[u8], level: u32, line: &mut [u8])
 {
     let table = line::biphase_codings();
     let inverting = INVERTERS;
-    let spreads = SPREAD;
+    let spreads = spreads_by_octet();
     write_line(&table, &inverting, &spreads, samples, side, level, line);
 }
 
