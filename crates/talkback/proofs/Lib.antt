@@ -1,4 +1,5 @@
 pub mod Raising
+pub mod Pairs
 pub mod Samples
 pub mod Blocks
 pub mod Demands

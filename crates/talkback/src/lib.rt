@@ -2,7 +2,7 @@
 // 27, and separated from it.
 ghost use mathlib.Core.Path.{_≡_};
 ghost use mathlib.Core.Bool.{true};
-ghost use Prim.Native.Nat.{_+_, _*_, _%_, _^_, _<_, _≤_};
+ghost use Prim.Native.Nat.{_+_, _*_, _/_, _%_, _^_, _<_, _≤_};
 ghost use lib.IntN.{pos};
 ghost use lib.ListN.{length, getD};
 ghost use lib.Signed.{mag};
@@ -64,14 +64,6 @@ fn is_fitting(sample: i32, half: u32, free: u32) -> bool
         return false;
     }
     code(sample) % STATES < free
-}
-
-// A program sample with four bits in slots 4 to 7.
-fn joined(sample: i32, part: u32) -> i32
-    requires { ⌜ (inRange 24 sample ≡ true) × (auxiliary sample ≡ 0) × (part < 2 ^ 4) ⌝ }
-    ensures { λ r. ⌜ r ≡ sampleWith (main sample) part ⌝ }
-{
-    sample + part as i32
 }
 
 // A sample without what is in slots 4 to 7.
@@ -197,25 +189,63 @@ fn check_use(program: usize, voice: usize, side: &[u8], samples: usize) -> Verdi
 
 // ---- joining
 
-// A frame, from subframe i on: the program samples of A and B with a and b in slots 4 to 7.
-fn join_frame(program: &[i32], a: u32, b: u32, i: usize, samples: &mut [i32])
-    requires { ⌜ (Programs (now program)) × (length (now program) ≡ 384) × (length (now samples) ≡ 384) × (a < 2 ^ 4) × (b < 2 ^ 4) × (i + 1 < 384) ⌝ }
-    ensures { λ _. ⌜ now (samples .exit) ≡ frameSet (now (program .entry)) a b i (now (samples .entry)) ⌝ }
+// The 32 bits of a sample.
+fn code_32(sample: i32) -> u64
+    ensures { λ r. ⌜ (r ≡ codeOf 32 sample) × (r < 2 ^ 32) ⌝ }
 {
-    let x = joined(program[i], a);
+    (sample as i64 + 0x1_0000_0000) as u64 % 0x1_0000_0000
+}
+
+// The sample of 32 bits.
+fn signed_32(w: u64) -> i32
+    requires { ⌜ w < 2 ^ 32 ⌝ }
+    ensures { λ r. ⌜ r ≡ signedOf 32 w ⌝ }
+{
+    if w < 0x8000_0000 {
+        w as i32
+    } else {
+        (w as i64 - 0x1_0000_0000) as i32
+    }
+}
+
+// Two samples side by side, the first below, as they lie in memory: one load and one store serve both.
+fn pair(a: i32, b: i32) -> u64
+    ensures { λ r. ⌜ r ≡ codeOf 32 a + codeOf 32 b * 2 ^ 32 ⌝ }
+{
+    let low = code_32(a);
+    let high = code_32(b);
+    low + high * 0x1_0000_0000
+}
+
+// The lowest four bits of each of two.
+fn low_fours(pair: u64) -> u64
+    ensures { λ r. ⌜ r ≡ pair % 2 ^ 4 + pair / 2 ^ 32 % 2 ^ 4 * 2 ^ 32 ⌝ }
+{
+    pair & 0xF_0000_000F
+}
+
+// A frame, from subframe i on: the program samples of A and B with two parts, side by side, in slots 4 to 7.
+fn join_frame(program: &[i32], parts: u64, i: usize, samples: &mut [i32])
+    requires { ⌜ (Programs (now program)) × (length (now program) ≡ 384) × (length (now samples) ≡ 384) × (parts % 2 ^ 32 < 2 ^ 4) × (parts / 2 ^ 32 < 2 ^ 4) × (i + 1 < 384) ⌝ }
+    ensures { λ _. ⌜ now (samples .exit) ≡ frameSet (now (program .entry)) (parts % 2 ^ 32) (parts / 2 ^ 32) i (now (samples .entry)) ⌝ }
+{
+    let a = program[i];
+    let b = program[i + 1];
+    let both = pair(a, b) + parts;
+    let x = signed_32(both % 0x1_0000_0000);
+    let y = signed_32(both / 0x1_0000_0000);
     samples[i] = x;
-    let y = joined(program[i + 1], b);
     samples[i + 1] = y;
 }
 
-// Three frames, from subframe i on, with 12 bits of voice for A and for B, the lowest four in the first.
-fn join_three(program: &[i32], a: u32, b: u32, i: usize, samples: &mut [i32])
+// Three frames, from subframe i on, with the voice samples for A and for B side by side, the lowest four bits in the first.
+fn join_three(program: &[i32], voices: u64, i: usize, samples: &mut [i32])
     requires { ⌜ (Programs (now program)) × (length (now program) ≡ 384) × (length (now samples) ≡ 384) × (i + 5 < 384) ⌝ }
-    ensures { λ _. ⌜ now (samples .exit) ≡ threeSet (now (program .entry)) a b i (now (samples .entry)) ⌝ }
+    ensures { λ _. ⌜ now (samples .exit) ≡ threeSet (now (program .entry)) (voices % 2 ^ 32) (voices / 2 ^ 32) i (now (samples .entry)) ⌝ }
 {
-    join_frame(program, a % STATES, b % STATES, i, samples);
-    join_frame(program, a / 16 % STATES, b / 16 % STATES, i + 2, samples);
-    join_frame(program, a / 256 % STATES, b / 256 % STATES, i + 4, samples);
+    join_frame(program, low_fours(voices), i, samples);
+    join_frame(program, low_fours(voices / 16), i + 2, samples);
+    join_frame(program, low_fours(voices / 256), i + 4, samples);
 }
 
 fn join_block(program: &[i32], voice: &[i32], samples: &mut [i32])
@@ -224,9 +254,9 @@ fn join_block(program: &[i32], voice: &[i32], samples: &mut [i32])
 {
     let mut k: usize = 0;
     while k < 64 {
-        let a = code(voice[2 * k]);
-        let b = code(voice[2 * k + 1]);
-        join_three(program, a, b, 6 * k, samples);
+        let a = voice[2 * k];
+        let b = voice[2 * k + 1];
+        join_three(program, pair(a, b), 6 * k, samples);
         k += 1;
     }
 }

@@ -1,21 +1,21 @@
 -- `talkback::join_block` meets its contract: after k turns the first 6 k samples are joined. Assumes nothing.
 use mathlib.Core.Path.{_≡_, refl, ap, _∙_}
 use mathlib.Core.List.{List}
-use Prim.Native.Nat.{ℕ, _+_, _-_, _*_, _%_, _^_, _≤_, _<_}
+use Prim.Native.Nat.{ℕ, _+_, _-_, _*_, _/_, _%_, _^_, _≤_, _<_}
 use native.Mathlib.Omega.{arith}
 use borrow.Author.Needs.{sfits-of}
 use lib.IntN.{ℤ, pos}
 use lib.ListN.{length, getD}
 use mir.Syntax.{w32}
-use mir.Val.{toZ, ofZ}
 use mir.Facts.{toZ-ofZ}
 use Rattle.bits.proofs.Filling.{over, over-all, length-over}
 use Rattle.subframe.specs.Signed.{codeOf}
-use Rattle.subframe.proofs.SignedLaws.{range-widens, code-narrows}
+use Rattle.subframe.proofs.SignedLaws.{code-narrows}
 use Rattle.talkback.specs.Talkback.{withVoice}
 use Rattle.talkback.specs.Inner.{threeSet}
 use Rattle.talkback.proofs.Blocks.{length-with}
 use Rattle.talkback.proofs.Joining.{three-next}
+use Rattle.talkback.proofs.Pairs.{code-32-lt}
 use Rattle.talkback.proofs.join_block.Statement.{statement}
 use Rattle.talkback.proofs.join_block.Tie as tie
 
@@ -46,64 +46,63 @@ module _ (c : tie.At-loop Inv-loop μ-loop) where
       ap length (c .loop .inv .1)
       ∙ length-over (6 * k) (withVoice program voice) old (omega (arith, full)) (omega (arith, c .before .pre .4)) ∙ c .before .pre .4
 
--- the voice samples that were read
-module _ (c : tie.After-code-arg Inv-loop μ-loop) where
+-- the voice samples that were read, side by side
+module _ (c : tie.After-pair Inv-loop μ-loop) where
   abbrev here : tie.At-loop Inv-loop μ-loop
-  here = c .before .before
+  here = c .before .before .before .before
 
   abbrev a : ℤ
   a = getD (voice here) (2 * k here) (pos 0)
 
-  held : toZ w32 (ofZ w32 a) ≡ a
-  held = toZ-ofZ {w = w32} (sfits-of (c .code-arg .given))
-
-module _ (c : tie.After-code-arg2 Inv-loop μ-loop) where
-  abbrev here-2 : tie.At-loop Inv-loop μ-loop
-  here-2 = c .before .before .before .before
-
   abbrev b : ℤ
-  b = getD (voice here-2) (2 * k here-2 + 1) (pos 0)
+  b = getD (voice here) (2 * k here + 1) (pos 0)
 
-  held-2 : toZ w32 (ofZ w32 b) ≡ b
-  held-2 = toZ-ofZ {w = w32} (sfits-of (c .code-arg2 .given))
+  both : c .pair .result ≡ codeOf 32 a + codeOf 32 b * 2 ^ 32
+  both =
+      rw (toZ-ofZ {w = w32} (sfits-of (c .before .before .a .given)), toZ-ofZ {w = w32} (sfits-of (c .before .b .given))) at (c .pair .ensures)
+
+  a-lt : codeOf 32 a < 2 ^ 32
+  a-lt = code-32-lt a (sfits-of (c .before .before .a .given))
+
+  below : c .pair .result % 2 ^ 32 ≡ codeOf 32 a
+  below = omega (arith, both, a-lt)
+
+  above : c .pair .result / 2 ^ 32 ≡ codeOf 32 b
+  above = omega (arith, both, a-lt)
 
 loop-holds : tie.Need-loop-holds Inv-loop μ-loop
 loop-holds c = (omega arith, refl)
 
-mul-code : tie.Need-mul-code Inv-loop μ-loop
-mul-code c = omega arith
+mul-a : tie.Need-mul-a Inv-loop μ-loop
+mul-a c = omega arith
 
-mul-code-2 : tie.Need-mul-code-2 Inv-loop μ-loop
-mul-code-2 c = omega arith
+mul-a-2 : tie.Need-mul-a-2 Inv-loop μ-loop
+mul-a-2 c = omega arith
 
-shared-slice-copy-out-code : tie.Need-shared-slice-copy-out-code Inv-loop μ-loop
-shared-slice-copy-out-code c = omega arith
+shared-slice-copy-out-a : tie.Need-shared-slice-copy-out-a Inv-loop μ-loop
+shared-slice-copy-out-a c = omega arith
 
-code-requires : tie.Need-code-requires Inv-loop μ-loop
-code-requires c κs = rw (held c) (range-widens 12 24 (omega arith) (a c) (here c .before .pre .1 (2 * k (here c)) (omega arith)))
+mul-b : tie.Need-mul-b Inv-loop μ-loop
+mul-b c = omega arith
 
-mul-code-3 : tie.Need-mul-code-3 Inv-loop μ-loop
-mul-code-3 c = omega arith
+add-b : tie.Need-add-b Inv-loop μ-loop
+add-b c = omega arith
 
-add-code : tie.Need-add-code Inv-loop μ-loop
-add-code c = omega arith
+mul-b-2 : tie.Need-mul-b-2 Inv-loop μ-loop
+mul-b-2 c = omega arith
 
-mul-code-4 : tie.Need-mul-code-4 Inv-loop μ-loop
-mul-code-4 c = omega arith
+shared-slice-copy-out-b : tie.Need-shared-slice-copy-out-b Inv-loop μ-loop
+shared-slice-copy-out-b c = omega arith
 
-shared-slice-copy-out-code-2 : tie.Need-shared-slice-copy-out-code-2 Inv-loop μ-loop
-shared-slice-copy-out-code-2 c = omega arith
-
-code-requires-2 : tie.Need-code-requires-2 Inv-loop μ-loop
-code-requires-2 c κs =
-    rw (held-2 c) (range-widens 12 24 (omega arith) (b c) (here-2 c .before .pre .1 (2 * k (here-2 c) + 1) (omega arith)))
+pair-requires : tie.Need-pair-requires Inv-loop μ-loop
+pair-requires c κs = tt
 
 mul-join-three : tie.Need-mul-join-three Inv-loop μ-loop
 mul-join-three c = omega arith
 
 join-three-requires : tie.Need-join-three-requires Inv-loop μ-loop
 join-three-requires c κs =
-    let p = here-2 (c .before .before) in
+    let p = here (c .before) in
     (p .before .pre .0, p .before .pre .2, long p, omega arith)
 
 add-k : tie.Need-add-k Inv-loop μ-loop
@@ -115,20 +114,16 @@ loop-less c = omega arith
 loop-again : tie.Need-loop-again Inv-loop μ-loop
 loop-again c =
     let three = c .before in
-    let second = three .before .before in
-    let first = second .before .before in
-    let p = here (first .before) in
-    let x = first .code .result in
-    let y = second .code2 .result in
-    let ea : x ≡ codeOf 24 (a (first .before)) = rw (held (first .before)) at (first .code .ensures) in
-    let eb : y ≡ codeOf 24 (b (second .before)) = rw (held-2 (second .before)) at (second .code2 .ensures) in
-    let na : x % 2 ^ 12 ≡ codeOf 12 (a (first .before)) =
-    ap (λ (n : ℕ). n % 2 ^ 12) ea ∙ code-narrows 12 24 (omega arith) (a (first .before)) (p .before .pre .1 (2 * k p) (omega arith)) in
-    let nb : y % 2 ^ 12 ≡ codeOf 12 (b (second .before)) =
-    ap (λ (n : ℕ). n % 2 ^ 12) eb ∙ code-narrows 12 24 (omega arith) (b (second .before)) (p .before .pre .1 (2 * k p + 1) (omega arith)) in (
+    let made = three .before .before in
+    let p = here made in
+    let x = made .pair .result in
+    let na : x % 2 ^ 32 % 2 ^ 12 ≡ codeOf 12 (a made) =
+    ap (λ (n : ℕ). n % 2 ^ 12) (below made) ∙ code-narrows 12 32 (omega arith) (a made) (p .before .pre .1 (2 * k p) (omega arith)) in
+    let nb : x / 2 ^ 32 % 2 ^ 12 ≡ codeOf 12 (b made) =
+    ap (λ (n : ℕ). n % 2 ^ 12) (above made) ∙ code-narrows 12 32 (omega arith) (b made) (p .before .pre .1 (2 * k p + 1) (omega arith)) in (
       omega arith,
-      three .join-three .ensures ∙ ap (threeSet (program p) x y (6 * k p)) (p .loop .inv .1)
-          ∙ three-next (program p) (voice p) (old p) (p .before .pre .4) (k p) x y (omega arith) na nb,
+      three .join-three .ensures ∙ ap (threeSet (program p) (x % 2 ^ 32) (x / 2 ^ 32) (6 * k p)) (p .loop .inv .1)
+          ∙ three-next (program p) (voice p) (old p) (p .before .pre .4) (k p) (x % 2 ^ 32) (x / 2 ^ 32) (omega arith) na nb,
     )
 
 same-length : tie.Need-same-length Inv-loop μ-loop
@@ -147,15 +142,14 @@ join-block-spec =
     Inv-loop
     μ-loop
     loop-holds
-    mul-code
-    mul-code-2
-    shared-slice-copy-out-code
-    code-requires
-    mul-code-3
-    add-code
-    mul-code-4
-    shared-slice-copy-out-code-2
-    code-requires-2
+    mul-a
+    mul-a-2
+    shared-slice-copy-out-a
+    mul-b
+    add-b
+    mul-b-2
+    shared-slice-copy-out-b
+    pair-requires
     mul-join-three
     join-three-requires
     add-k
