@@ -43,7 +43,8 @@ fn entry(table: &[u16], d: u32) -> u64
 
 // What inverts the symbols behind the first sixteen of 56 where those before them leave level 1: u holds the three entries
 // that they begin with, each for level 0, and the lowest bit of an entry inverts all behind it. The three bits come side
-// by side by one multiplication: a test of each would take two instructions more, and a branch go wrong every other time.
+// by side by one multiplication, which is shorter than taking them one by one; a branch on a symbol would go wrong every
+// other time.
 fn inverters_of(table: &[u64], u: u64) -> u64
     requires { ⌜ (now table ≡ invertersTable) × (u < 2 ^ 48) ⌝ }
     ensures { λ r. ⌜ r ≡ inverters (odd (u / 2 ^ 32)) (odd (u / 2 ^ 16)) (odd u) ⌝ }
