@@ -37,6 +37,11 @@ module _ (dids : List ℕ) (w : ℕ) where
       })
       (λ none n. absurd (n refl))
 
+  -- a group is one of those listed, or 0
+  pub group-most : groupIn dids w ≤ length dids
+  group-most =
+      search-cases (λ i. eqb w (getD dids i 0)) suc 0 0 (length dids) (λ g. g ≤ length dids) (λ i l u t before. omega arith) (λ none. omega arith)
+
   module _ (some : 0 < length dids) where
     -- one that names none is no DID
     pub unnamed : groupIn dids w ≡ 0 → eqb w (didIn dids (groupIn dids w)) ≡ false

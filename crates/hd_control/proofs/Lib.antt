@@ -1,4 +1,5 @@
 pub mod ControlLaws
+pub mod Ranges
 pub mod WrittenRead
 pub mod ReadWritten
 pub mod Residue

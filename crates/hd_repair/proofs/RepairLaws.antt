@@ -11,6 +11,7 @@ use Rattle.answer.specs.Answer.{Answer.accepted, Answer.refused}
 use Rattle.answer.specs.Demand.{AllMet, _&_}
 use Rattle.answer.specs.Demand.Stops.{found, later}
 use Rattle.answer.proofs.Chains.{passing, stopped, met}
+use Rattle.answer.proofs.Numbers.{refused-below}
 use Rattle.anc.specs.Word.{wideAt}
 use Rattle.anc.specs.Head.{headDemands}
 use Rattle.codes.specs.Lanes.{hopelessAt, mendedOctets, lanesApart}
@@ -71,3 +72,9 @@ pub repair-met : (words : List ℕ) (room : ℕ) (v : ℕ × List ℕ) → repai
     → AllMet (repairDemands words room) × (_≡_ {A = ℕ × List ℕ} (lanesApart 8 (repairedOctets words) (octetsOf words), packetRepaired words) v)
 unfolding repairAnswer
 repair-met words room v e = met (lanesApart 8 (repairedOctets words) (octetsOf words), packetRepaired words) (repairDemands words room) e
+
+-- a refusal has one of the numbers of repair
+pub repair-number : (words : List ℕ) (room number place : ℕ) → repairAnswer words room ≡ refused number place → number < 18
+unfolding repairAnswer
+repair-number words room number place e =
+    refused-below (lanesApart 8 (repairedOctets words) (octetsOf words), packetRepaired words) (repairDemands words room) 18 e refl

@@ -12,7 +12,7 @@ use Rattle.bits.proofs.Tests.{pick-cases}
 use Rattle.answer.specs.Answer.{Answer, Answer.accepted, Answer.refused}
 use Rattle.records.specs.Record.{Content, Content.aes3, Content.hd, Content.madi, Content.ctl}
 use Rattle.report.specs.Text.{heading, aes3Ok, hdOk, madiOk, ctlOk, refusedWord, recordsWord, digits, decimal, singleText, pairText, answerText, lineOf, countLine}
-use Rattle.report.specs.Placed.{startOf, withText}
+use Rattle.report.specs.Placed.{startIn, startOf, withText}
 
 -- ---- lengths
 
@@ -23,15 +23,15 @@ digits-most (suc most) n =
     let higher = pick-cases (λ (s : List ℕ). length s ≤ most) (eqb (n / 10) 0) [] (digits most (n / 10)) (λ t. omega arith) (λ f. digits-most most (n / 10)) in
     omega (arith, higher, length-append (pick (eqb (n / 10) 0) [] (digits most (n / 10))) ((48 + n % 10) ∷ []))
 
-decimal-most : (n : ℕ) → length (decimal n) ≤ 20
+pub decimal-most : (n : ℕ) → length (decimal n) ≤ 20
 unfolding decimal
 decimal-most n = digits-most 20 n
 
-single-most : (word : List ℕ) (a : ℕ) → length (singleText word a) ≤ length word + 21
+pub single-most : (word : List ℕ) (a : ℕ) → length (singleText word a) ≤ length word + 21
 unfolding singleText
 single-most word a = simp length-append (omega (arith, decimal-most a))
 
-pair-most : (word : List ℕ) (a b : ℕ) → length (pairText word a b) ≤ length word + 42
+pub pair-most : (word : List ℕ) (a b : ℕ) → length (pairText word a b) ≤ length word + 42
 unfolding pairText
 pair-most word a b = simp length-append (omega (arith, decimal-most a, decimal-most b))
 
@@ -53,18 +53,27 @@ count-most n = single-most recordsWord n
 
 -- ---- what is written, and the buffer then
 
-pub starts : (text : List ℕ) → startOf text ≤ 128
-unfolding startOf
-starts text = omega arith
+pub starts : (size : ℕ) (text : List ℕ) → startIn size text ≤ size
+unfolding startIn
+starts size text = omega arith
 
-module _ (text old : List ℕ) (size : length old ≡ 128) (h : length text ≤ 128) where
-  pub with-size : length (withText text old) ≡ 128
-  unfolding withText startOf
-  with-size = simp (length-append, length-take-le (startOf text) old (omega arith)) (omega arith)
+pub starts-in : (size : ℕ) (text : List ℕ) {from : ℕ} → from ≡ startIn size text → from ≤ size
+starts-in size text e = omega (arith, e, starts size text)
 
-  pub at-end : drop (startOf text) (withText text old) ≡ text
-  unfolding withText startOf
-  at-end = drop-at (take (startOf text) old) text (startOf text) (length-take-le (startOf text) old (omega arith))
+module _ (text old : List ℕ) {size : ℕ} (e : length old ≡ size) (h : length text ≤ size) where
+  place : startIn (length old) text ≡ startIn size text
+  place = ap (λ (k : ℕ). startIn k text) e
+
+  front : length (take (startIn (length old) text) old) ≡ startIn (length old) text
+  front = length-take-le (startIn (length old) text) old (starts (length old) text)
+
+  pub with-size : length (withText text old) ≡ size
+  unfolding withText startIn
+  with-size = simp (length-append, front) (omega arith)
+
+  pub at-end : drop (startIn size text) (withText text old) ≡ text
+  unfolding withText
+  at-end = drop-at (take (startIn (length old) text) old) text (startIn size text) (front ∙ place)
 
 module _ (old : List ℕ) (size : length old ≡ 128) where
   pub heading-written : drop (startOf heading) (withText heading old) ≡ heading

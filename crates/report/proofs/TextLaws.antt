@@ -9,7 +9,7 @@ use lib.ListN.{length, getD, take, drop, set, length-drop, length-append, length
 use lib.Seq.{take-take, take-length, take-set-le, drop-cons, lt-length-set, getD-set-same, drop-set-lt, paste, paste-suc}
 use lib.Seq.{length-take-le, take-at, drop-at}
 use Rattle.report.specs.Text.{digits, decimal}
-use Rattle.report.specs.Placed.{startOf, withText}
+use Rattle.report.specs.Placed.{startIn, withText}
 use Rattle.report.specs.Inner.{Put}
 
 -- ---- text before a place
@@ -37,19 +37,23 @@ put-then {old = old} {mid = mid} {new = new} {text = text} {more = more} {end = 
     }
 
 -- at the end of the buffer
-module _ {old new text : List ℕ} {from : ℕ} (size : length old ≡ 128) (p : Put old 128 text from new) where
-  pub put-start : from ≡ startOf text
-  unfolding startOf
+module _ {old new text : List ℕ} {end from : ℕ} (size : length old ≡ end) (p : Put old end text from new) where
+  pub put-start : from ≡ startIn end text
+  unfolding startIn
   put-start = omega (arith, p .ends)
 
   pub put-all : new ≡ withText text old
   unfolding withText
   put-all =
-      let l : length old ≤ 128 = omega arith in
+      let l : length old ≤ end = omega arith in
       sym (take-append-drop from new)
       ∙ ap (λ (s : List ℕ). s ++ drop from new) (p .before)
       ∙ ap (λ (s : List ℕ). take from old ++ s) (p .after ∙ ap (λ (s : List ℕ). text ++ s) (drop-of-length-le old l) ∙ append-nil text)
-      ∙ ap (λ (k : ℕ). take k old ++ text) put-start
+      ∙ ap (λ (k : ℕ). take k old ++ text) (put-start ∙ ap (λ (k : ℕ). startIn k text) (sym size))
+
+-- nothing, before a place
+pub put-nothing : (old : List ℕ) (end : ℕ) → Put old end [] end old
+put-nothing old end = record { ends = omega arith; before = refl; after = refl }
 
 -- the same text in another form
 pub put-as : {old new text same : List ℕ} {end from : ℕ} → text ≡ same → Put old end text from new → Put old end same from new

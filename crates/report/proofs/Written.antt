@@ -33,7 +33,7 @@ short n head body =
 
 pub step-starts : (t : Printed) {s : Step} → s ≡ stepOf t → s .from ≤ 128
 unfolding stepOf
-step-starts t e = omega (arith, ap (λ (s : Step). s .from) e, starts (t .text))
+step-starts t e = omega (arith, ap (λ (s : Step). s .from) e, starts 128 (t .text))
 
 module _ (old : List ℕ) (size : length old ≡ 128) (n : ℕ) (head body : List ℕ) where
   pub step-written : drop (stepOf (printed n head body) .from) (withText (printed n head body .text) old) ≡ printed n head body .text

@@ -34,10 +34,10 @@ begin-requires : tie.Need-begin-requires Inv-loop μ-loop
 begin-requires c κs = search needs
 
 sub-write-all : tie.Need-sub-write-all Inv-loop μ-loop
-sub-write-all c = omega (arith, c .begin .ensures .0, starts heading)
+sub-write-all c = omega (arith, c .begin .ensures .0, starts 128 heading)
 
 part-write-all-start : tie.Need-part-write-all-start Inv-loop μ-loop
-part-write-all-start c = omega (arith, c .before .begin .ensures .0, starts heading)
+part-write-all-start c = omega (arith, c .before .begin .ensures .0, starts 128 heading)
 
 part-write-all-end : tie.Need-part-write-all-end Inv-loop μ-loop
 part-write-all-end c = omega (arith, heading-size _ (search needs) (c .before .begin .ensures .1))
