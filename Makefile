@@ -1,4 +1,5 @@
 # make report      runs the report program on a file of records (RECORDS=file for another one)
+# make replay      runs packet_replay on a night's records (NIGHT=file for another one)
 # make test        everything: layout, contracts, papers, the C programs by themselves, all proofs, wrong answers and
 #                  programs, and the C boundary over what was proved; its last line is the verdict of rt ci, given only
 #                  if all passed
@@ -8,7 +9,7 @@
 # make promises    makes docs/WRONG-ANSWERS.md anew, from the sheets of wrong answers
 # make lib         proves the library and builds target/staticlib/liblampcoil.a for C on x86-64
 # make shared      builds build/liblampcoil.so.1 from the archive
-# make install     puts archive, header, pkg-config file, report program and its manual page under DESTDIR and PREFIX
+# make install     puts archive, header, pkg-config file, both programs and their manual pages under DESTDIR and PREFIX
 # make uninstall   takes them away
 # make bench       measures against C by hand and writes docs/FIGURES.md
 # make expected    makes the files that tests are held to anew, from the second program
@@ -20,11 +21,12 @@
 .NOTPARALLEL:
 .PHONY: report test read alone proofs edits boundary lib program install uninstall bench expected mutants promises clean header second \
 	held hand listed compare flips card installed
-.PHONY: tried shared failing carry carry_alone sound
+.PHONY: tried shared failing carry carry_alone sound replay
 
 PREFIX = /usr/local
 DESTDIR =
 RECORDS = examples/desk.rec
+NIGHT = examples/night.rec
 
 # Crates and edits that are tried at a time: twice the processors of a small machine, since each batch waits for its
 # slowest; with more they hinder each other (docs/FIGURES.md).
@@ -38,16 +40,16 @@ X86 = tests/on-x86
 
 SECOND = tests/second/second.c tests/second/second_status.c tests/second/second_length.c tests/second/second_aes3.c tests/second/second_madi.c \
 	tests/second/second_hd.c tests/second/second_control.c tests/second/second_talkback.c \
-	tests/second/second_patch.c tests/second/second_leases.c tests/second/second_levels.c
+	tests/second/second_patch.c tests/second/second_leases.c tests/second/second_levels.c tests/second/second_replay.c
 SPOIL = tests/second/spoil.c
 COMPARE = tests/compare/compare.c tests/compare/edges.c tests/compare/compare_small.c tests/compare/compare_hd.c tests/compare/compare_control.c \
 	tests/compare/compare_madi.c tests/compare/compare_commands.c tests/compare/compare_aes3.c tests/compare/compare_length.c \
-	tests/compare/compare_talkback.c tests/compare/compare_patch.c tests/compare/compare_leases.c tests/compare/compare_levels.c
+	tests/compare/compare_talkback.c tests/compare/compare_patch.c tests/compare/compare_leases.c tests/compare/compare_levels.c tests/compare/compare_replay.c
 HAND = bench/hand_aes3.c bench/hand_madi.c bench/hand_hd.c bench/hand_control.c bench/hand_talkback.c bench/hand_patch.c \
 	bench/hand_levels.c
 CARRY = examples/carry.c examples/carry_back.c
 
-# ---- the library and the report program
+# ---- the library and the programs
 
 # One sum of the kit and of every source, so that an archive of other sources than those that stand here is never used.
 SOURCES = { rt version; find crates crates.txt -type f \( -name '*.rt' -o -name '*.antt' -o -name crates.txt \) \
@@ -67,11 +69,12 @@ lib:
 	fi
 
 # rt itself tells what changed since it was last proved, and proves that alone.
+PROGRAMS = carrier_report packet_replay
 program:
-	@[ -f target/bin/carrier_report ] || \
-	    echo "The first run proves the report program and all that it is made of, which takes minutes; later runs prove what changed." >&2
-	@[ -f target/bin/carrier_report ] || rm -f target/stamp/carrier_report
-	@RT_JOBS=$(JOBS) tests/progress build/program.log rt check carrier_report
+	@[ -f target/bin/carrier_report ] && [ -f target/bin/packet_replay ] || \
+	    echo "The first run proves both programs and all that they are made of, which takes minutes; later runs prove what changed." >&2
+	@for p in $(PROGRAMS); do [ -f target/bin/$$p ] || rm -f target/stamp/$$p; done
+	@RT_JOBS=$(JOBS) tests/progress build/program.log rt check $(PROGRAMS)
 
 # The archive is position-independent code (the linker refuses what is not), so C may have it as a shared library too.
 shared: lib
@@ -84,6 +87,9 @@ shared: lib
 
 report: program
 	@$(X86) kit target/bin/carrier_report <$(RECORDS)
+
+replay: program
+	@$(X86) kit target/bin/packet_replay <$(NIGHT)
 
 # ---- tests
 
@@ -228,9 +234,11 @@ carry: $(ARCHIVE) build/sound_tool
 sound: carry program
 	tests/sound build "$(X86) kit target/bin/carrier_report" $(X86) run build/carry
 
-# The report program where its output cannot be written or its input not be read.
+# Each program where its output cannot be written or its input not be read.
 failing: program
 	tests/failing target/bin/carrier_report carrier_report 'carrier report 1' 'records 0'
+	tests/failing target/bin/packet_replay packet_replay "$$(echo 'packet replay 1'; \
+	    for g in 1 2 3 4; do echo "group $$g read 0 lanes 0 last none breaks 0"; done)" end silent
 
 mutants:
 	CC="$(CC)" JOBS=$(JOBS) tests/compare/mutants
@@ -251,6 +259,8 @@ bench: $(ARCHIVE) program
 	$(X86) cc $(CFLAGS) -O3 $(INCLUDES) -o build/report_hand bench/report_hand.c $(HAND)
 	$(CC) $(CFLAGS) $(INCLUDES) -o build/mixed_records tests/second/mixed_records.c tests/second/records.c $(SPOIL) $(SECOND)
 	build/mixed_records 20000 2 >build/many.rec
+	$(CC) $(CFLAGS) $(INCLUDES) -o build/night_records tests/second/night_records.c tests/second/records.c $(SPOIL) $(SECOND)
+	build/night_records 20000 2 end >build/night.rec
 	bench/run build >build/figures.md
 	cp build/figures.md docs/FIGURES.md
 	cat docs/FIGURES.md
@@ -266,13 +276,14 @@ install: lib program
 	install -m 644 $(ARCHIVE) "$(DESTDIR)$(PREFIX)/lib/liblampcoil.a"
 	install -m 644 include/lampcoil.h "$(DESTDIR)$(PREFIX)/include/lampcoil.h"
 	install -m 644 build/lampcoil.pc "$(DESTDIR)$(PREFIX)/lib/pkgconfig/lampcoil.pc"
-	install -m 755 target/bin/carrier_report "$(DESTDIR)$(PREFIX)/bin/carrier_report"
-	install -m 644 man/carrier_report.1 "$(DESTDIR)$(PREFIX)/share/man/man1/carrier_report.1"
+	for p in $(PROGRAMS); do \
+	    install -m 755 target/bin/$$p "$(DESTDIR)$(PREFIX)/bin/$$p" && \
+	    install -m 644 man/$$p.1 "$(DESTDIR)$(PREFIX)/share/man/man1/$$p.1" || exit 1; done
 
 uninstall:
 	rm -f "$(DESTDIR)$(PREFIX)/lib/liblampcoil.a" "$(DESTDIR)$(PREFIX)/include/lampcoil.h" \
-	    "$(DESTDIR)$(PREFIX)/lib/pkgconfig/lampcoil.pc" "$(DESTDIR)$(PREFIX)/bin/carrier_report" \
-	    "$(DESTDIR)$(PREFIX)/share/man/man1/carrier_report.1"
+	    "$(DESTDIR)$(PREFIX)/lib/pkgconfig/lampcoil.pc"
+	for p in $(PROGRAMS); do rm -f "$(DESTDIR)$(PREFIX)/bin/$$p" "$(DESTDIR)$(PREFIX)/share/man/man1/$$p.1"; done
 
 installed: lib program
 	tests/install

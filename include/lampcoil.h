@@ -30,9 +30,9 @@ extern "C" {
 #endif
 
 /* The version of this header and of the library beside it. A larger MAJOR may take something away; MINOR adds. */
-#define LAMPCOIL_VERSION "5.1.0"
+#define LAMPCOIL_VERSION "5.2.0"
 #define LAMPCOIL_VERSION_MAJOR 5
-#define LAMPCOIL_VERSION_MINOR 1
+#define LAMPCOIL_VERSION_MINOR 2
 #define LAMPCOIL_VERSION_PATCH 0
 
 /* Numbers that come back, and what their place is; lampcoil_refusal_text tells when each is given. */
@@ -59,6 +59,7 @@ extern "C" {
 #define LAMPCOIL_REFUSED_FAULT_MAP 20u   /* place: subframe */
 #define LAMPCOIL_REFUSED_SLOTS 21u
 #define LAMPCOIL_REFUSED_FULL 22u
+#define LAMPCOIL_REFUSED_COUNT 23u
 
 /* When a number is given, in words; never null. */
 static inline const char *lampcoil_refusal_text(uint32_t number)
@@ -87,6 +88,7 @@ static inline const char *lampcoil_refusal_text(uint32_t number)
         "writer: an E of the side table is set",
         "fewer slots are free than were asked for",
         "a channel of a level sheet would pass 2^32 samples",
+        "a count of a replay would pass 2^32-1",
     };
     return number < sizeof texts / sizeof texts[0] ? texts[number] : "not a number of this library";
 }
@@ -110,6 +112,7 @@ static inline const char *lampcoil_refusal_text(uint32_t number)
 #define LAMPCOIL_PACKET_BODIES 4u
 #define LAMPCOIL_CONTROL_WORDS 18u
 #define LAMPCOIL_SHEET_NUMBERS 20u
+#define LAMPCOIL_REPLAY_NUMBERS 110u
 
 /* Where the columns of a side table begin: 24 octets each; bit i of octet j belongs to frame 8j+i, bit 0 has weight 1.
    The C column of a channel is its channel status. E is the fault map: see aes3_read. */
@@ -470,6 +473,43 @@ lampcoil_verdict lampcoil_level_add(int64_t *sheet, size_t sheet_len, const int3
 /* Joins the sheet of a later stretch to that of an earlier one, in its place: the sheet of both on end. Whatever the order in
    which three are joined, the result is the same. Order: LENGTH (both), RANGE (either, as above), FULL. */
 lampcoil_verdict lampcoil_level_join(int64_t *sheet, size_t sheet_len, const int64_t *later, size_t later_len);
+
+/* ---- Replay of a night's packets: figures for each group over a file of records. ---- */
+
+/* A group's line: packets read, data and control; lanes that repair mended, also in packets that the reader then refused;
+   packets refused, refused[n] by number n; `seen` is 1 where a data packet was read, else 0, and last_dbn the DBN of the
+   last one; breaks in the order of their DBNs. */
+typedef struct {
+    uint32_t read, lanes, refused[18], seen, last_dbn, breaks;
+} lampcoil_replay_line;
+
+/* A sheet: 110 numbers, groups 1 to 4 and then, by number, the refused packets of wrong length or without a DID that is
+   listed for their kind. All 0 is the empty sheet. */
+typedef struct {
+    lampcoil_replay_line group[4];
+    uint32_t unlisted[18];
+} lampcoil_replay_sheet;
+
+/* How a replay stopped: the file ended at a record's boundary; a length above 8,192; a cut record. */
+#define LAMPCOIL_STOP_END 0u
+#define LAMPCOIL_STOP_LONG 1u
+#define LAMPCOIL_STOP_CUT 2u
+
+/* Replays a file of records, as the report program reads them, from a sheet into it. Records of kind 2 are data packets,
+   which are repaired and then read; of kind 4 control packets, which are read; other records are passed over. A packet's
+   group is that of its DID word after repair, or as received where it is not repaired. A break is a data packet read
+   whose DBN is not the next (lampcoil_hd_next_dbn) after the last one read of its group, where neither is 0.
+   `taken` are the octets of the whole records before the stop, `figures` the figures after them: what the sheet then
+   holds. So a file may be cut at any record's boundary and gone on with from the saved figures.
+   Order: LENGTH (sheet not 110 numbers; the file may have any length), RANGE (a seen above 1, a last_dbn above 255, or one
+   that is not 0 where seen is 0), COUNT (a count would pass 2^32-1). A refusal leaves the sheet as it was; COUNT hands
+   back, in `taken` and `figures`, the octets and the figures before the record that has no room. */
+typedef struct {
+    uint32_t number, place;
+    uint64_t taken;
+    uint32_t stop, figures[110];
+} lampcoil_replay_answer;
+lampcoil_replay_answer lampcoil_replay(const uint8_t *records, size_t records_len, uint32_t *sheet, size_t sheet_len);
 
 #ifdef __cplusplus
 }

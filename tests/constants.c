@@ -312,6 +312,27 @@ static void test_sheet(void)
     GIVES(lampcoil_level_add(sheet, n, samples, LAMPCOIL_BLOCK_SAMPLES, side, LAMPCOIL_SIDE_OCTETS), LAMPCOIL_REFUSED_RANGE);
 }
 
+static void test_replay(void)
+{
+    static const uint8_t too_long[] = {0, 0, 0x20, 1}, cut[] = {0, 0, 0x20, 0};
+    uint32_t sheet[LAMPCOIL_REPLAY_NUMBERS + 1] = {0};
+    const size_t n = LAMPCOIL_REPLAY_NUMBERS;
+    uint8_t short_packet[6] = {0, 0, 0, 2, 1, 2}; /* a data packet of no words: refused by 1, without a group */
+    EXPECT(n * sizeof sheet[0] == sizeof(lampcoil_replay_sheet));
+    EXPECT(n * sizeof sheet[0] == 4 * sizeof(lampcoil_replay_line) + 18 * sizeof sheet[0]);
+    GIVES(lampcoil_replay(short_packet, 6, sheet, n - 1), LAMPCOIL_REFUSED_LENGTH);
+    GIVES(lampcoil_replay(short_packet, 6, sheet, n + 1), LAMPCOIL_REFUSED_LENGTH);
+    GIVES(lampcoil_replay(short_packet, 6, sheet, n), LAMPCOIL_ACCEPTED);
+    EXPECT(sheet[n - 18 + LAMPCOIL_REFUSED_LENGTH] == 1);
+    EXPECT(lampcoil_replay(short_packet, 6, sheet, n).stop == LAMPCOIL_STOP_END);
+    EXPECT(lampcoil_replay(too_long, 4, sheet, n).stop == LAMPCOIL_STOP_LONG);
+    EXPECT(lampcoil_replay(cut, 4, sheet, n).stop == LAMPCOIL_STOP_CUT);
+    sheet[n - 18 + LAMPCOIL_REFUSED_LENGTH] = UINT32_MAX;
+    GIVES(lampcoil_replay(short_packet, 6, sheet, n), LAMPCOIL_REFUSED_COUNT);
+    sheet[20] = 2;
+    GIVES(lampcoil_replay(short_packet, 6, sheet, n), LAMPCOIL_REFUSED_RANGE);
+}
+
 static void test_status(void)
 {
     uint8_t status[LAMPCOIL_STATUS_OCTETS] = {0};
@@ -330,8 +351,8 @@ static void test_status(void)
 /* Each number has a text of its own, and no other number has one. */
 static void test_texts(void)
 {
-    const char *none = lampcoil_refusal_text(LAMPCOIL_REFUSED_FULL + 1);
-    for (uint32_t k = LAMPCOIL_ACCEPTED; k <= LAMPCOIL_REFUSED_FULL; k++) {
+    const char *none = lampcoil_refusal_text(LAMPCOIL_REFUSED_COUNT + 1);
+    for (uint32_t k = LAMPCOIL_ACCEPTED; k <= LAMPCOIL_REFUSED_COUNT; k++) {
         EXPECT(strcmp(lampcoil_refusal_text(k), none) != 0);
         for (uint32_t j = LAMPCOIL_ACCEPTED; j < k; j++)
             EXPECT(strcmp(lampcoil_refusal_text(k), lampcoil_refusal_text(j)) != 0);
@@ -385,6 +406,7 @@ int main(void)
     test_control();
     test_status();
     test_sheet();
+    test_replay();
     test_texts();
     printf("constants: %d passed, %d failed\n", passed, failed);
     return failed != 0;

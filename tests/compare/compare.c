@@ -236,6 +236,7 @@ static const struct { const char *name; void (*compare)(uint32_t cases); } group
     {"patch", compare_patch},
     {"levels", compare_levels},
     {"leases", compare_leases},
+    {"replay", compare_replay},
 };
 enum { GROUPS = sizeof groups / sizeof groups[0] };
 

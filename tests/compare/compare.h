@@ -72,6 +72,7 @@ void compare_talkback(uint32_t cases);
 void compare_patch(uint32_t cases);
 void compare_levels(uint32_t cases);
 void compare_leases(uint32_t cases);
+void compare_replay(uint32_t cases);
 
 /* Things that are valid, for the cases to damage. */
 uint32_t even_body(void);                        /* a body with even parity, sometimes all zero */

@@ -26,7 +26,7 @@ static const struct { const char *entry, *argument; } slices[] = {
     {"talkback_join", "samples"},      {"talkback_separate", "samples"}, {"talkback_separate", "side"},
     {"talkback_separate", "program"},  {"talkback_separate", "voice"},
     {"level_start", "sheet"},   {"level_add", "sheet"},     {"level_add", "samples"},  {"level_add", "side"},
-    {"level_join", "sheet"},    {"level_join", "later"},
+    {"level_join", "sheet"},    {"level_join", "later"},    {"replay", "records"},     {"replay", "sheet"},
     {"madi_patch", "leases"},   {"madi_patch", "rows"},     {"madi_patch", "frame_in"}, {"madi_patch", "frame_out"},
     {"madi_patch", "verdicts"}, {"lease_ask", "table"},     {"lease_return", "table"}, {"lease_close", "table"},
     {"lease_close", "moves"},

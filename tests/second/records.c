@@ -1,4 +1,4 @@
-/* Records for the report program: carriers of all kinds, good, or spoilt in a chosen way. */
+/* Records for the report program and the replay: carriers of all kinds, good, or spoilt in a chosen way. */
 #include "records.h"
 #include "second.h"
 #include "spoil.h"
@@ -119,6 +119,27 @@ static void spoil_packet(uint16_t words[31], int way)
     }
 }
 
+/* What repair mends, and what it does not: at most one place of each lane, or two of one lane. */
+static void spoil_for_repair(uint16_t words[31], int way)
+{
+    uint32_t lane = record_below(8), w = 6 + record_below(11);
+    uint16_t bit = (uint16_t)(1u << lane);
+    if (way == HD_LANES)
+        for (uint32_t k = 2 + record_below(7); k > 0; k--)
+            words[3 + record_below(27)] ^= (uint16_t)(1u << (lane + k) % 8);
+    if (way == HD_DID)
+        words[3] ^= bit;
+    if (way == HD_TWICE || way == HD_LOST_DID) {
+        words[w] ^= bit;
+        words[way == HD_LOST_DID ? 3 : w + 1 + record_below(13)] ^= bit;
+    }
+    if (way == HD_LANE_ZERO) {
+        words[4 * record_below(4) + 8] ^= 0x02;
+        spoil_close_lanes(words);
+        words[w] ^= bit;
+    }
+}
+
 void record_hd(uint32_t group, uint32_t dbn, int way)
 {
     uint32_t bodies[4];
@@ -128,7 +149,10 @@ void record_hd(uint32_t group, uint32_t dbn, int way)
         bodies[k] = draw_body();
     uint32_t phase = record_below(4096), ck12 = record_below(2), z1 = record_below(2), z2 = record_below(2);
     second_hd_write(group, dbn, phase, ck12, z1, z2, bodies, 4, words, 31);
-    spoil_packet(words, way);
+    if (way < HD_WAYS)
+        spoil_packet(words, way);
+    else
+        spoil_for_repair(words, way);
     for (int w = 0; w < 31; w++) {
         payload[2 * w] = (uint8_t)(words[w] / 256);
         payload[2 * w + 1] = (uint8_t)(words[w] % 256);

@@ -1,4 +1,4 @@
-/* Records for the report program, written to standard output: carriers of all kinds, good, or spoilt in a chosen way. */
+/* Records for the report program and the replay, written to standard output: carriers of all kinds, good, or spoilt in a chosen way. */
 #ifndef RECORDS_H
 #define RECORDS_H
 
@@ -20,7 +20,10 @@ enum {
 };
 enum {
     HD_GOOD, HD_ABOVE /* 14 */, HD_HEADER /* 13 */, HD_WORD /* 14 */, HD_CHECKSUM /* 16 */, HD_LANE /* 15 */, HD_ZERO /* 12 */,
-    HD_PARITY /* 9 */, HD_SHORT /* 1 */, HD_WAYS
+    HD_PARITY /* 9 */, HD_SHORT /* 1 */, HD_WAYS,
+    /* in a night alone, with what comes after repair */
+    HD_LANES = HD_WAYS /* accepted, 2 to 8 lanes mended */, HD_DID /* accepted, the DID mended */, HD_TWICE /* 15, as it came */,
+    HD_LANE_ZERO /* 12, a lane mended */, HD_LOST_DID /* 15, its DID no group's */, HD_NIGHT_WAYS
 };
 enum {
     MADI_GOOD, MADI_SPREAD /* accepted */, MADI_MANY /* accepted, 255 syncs */, MADI_CHANNELS /* 2 */, MADI_LEVEL /* 2 */,

@@ -47,6 +47,9 @@ typedef struct {
     int32_t delay34;
 } second_hd_control_answer;
 typedef struct { uint32_t number, place, lanes; } second_hd_repair_answer;
+typedef struct { uint32_t read, lanes, refused[18], seen, last_dbn, breaks; } second_replay_line;
+typedef struct { second_replay_line group[4]; uint32_t unlisted[18]; } second_replay_sheet;
+typedef struct { uint32_t number, place; uint64_t taken; uint32_t stop, figures[110]; } second_replay_answer;
 typedef struct { uint32_t number, place, lane; } second_lane;
 typedef struct { uint32_t number, place, dbn; } second_dbn;
 
@@ -96,6 +99,8 @@ second_verdict second_hd_control_write(uint32_t group, uint32_t frame, uint32_t 
                                        uint32_t valid12, int32_t delay12, uint32_t valid34, int32_t delay34,
                                        uint16_t *words, size_t words_len);
 second_hd_control_answer second_hd_control_read(const uint16_t *words, size_t words_len);
+
+second_replay_answer second_replay(const uint8_t *records, size_t records_len, uint32_t *sheet, size_t sheet_len);
 
 second_verdict second_level_start(int64_t *sheet, size_t sheet_len);
 second_verdict second_level_add(int64_t *sheet, size_t sheet_len, const int32_t *samples, size_t samples_len, const uint8_t *side,

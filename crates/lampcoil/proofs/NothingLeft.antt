@@ -18,6 +18,7 @@ use Rattle.hd_control.proofs.Residue.{control-write-leaves-none}
 use Rattle.talkback.proofs.Residue.{join-leaves-none, separate-leaves-none-in-program, separate-leaves-none-in-voice}
 use Rattle.levels.proofs.Limits.{start-leaves-none, add-leaves, join-leaves}
 use Rattle.levels.specs.Calls.{asBlock}
+use Rattle.replay.proofs.Kept.{replay-leaves}
 use Rattle.lampcoil.specs.Told.{fieldsLent}
 use Rattle.lampcoil.specs.Control.{controlLent}
 use Rattle.lampcoil.specs.Lent.{Lent, Promised}
@@ -53,3 +54,4 @@ nothing-left Lent.talkback-separate-voice = λ samples side program. separate-le
 nothing-left Lent.level-start-sheet = start-leaves-none
 nothing-left Lent.level-add-sheet = λ samples side. add-leaves (asBlock samples side)
 nothing-left Lent.level-join-sheet = join-leaves
+nothing-left Lent.replay-sheet = replay-leaves

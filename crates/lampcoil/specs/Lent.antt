@@ -34,6 +34,7 @@ use Rattle.levels.specs.Lines.{lineAt, sheetJoined}
 use Rattle.levels.specs.Sheets.{sheetOf}
 use Rattle.levels.specs.Calls.{asBlock, startAnswer, startLeft, joinLeft, addAnswer, addLeft}
 use Rattle.levels.specs.Calls.{joinAnswer as sheetAnswer}
+use Rattle.replay.specs.Replay.{replayFigures, replayAnswer, sheetAfter}
 use Rattle.lampcoil.specs.Told.{fieldsLent}
 use Rattle.lampcoil.specs.Control.{controlLent}
 
@@ -65,6 +66,7 @@ pub data Lent : Type 0 where
   level-start-sheet : Lent
   level-add-sheet : Lent
   level-join-sheet : Lent
+  replay-sheet : Lent
 
 -- the stretch in document 01's numbers, or the places that are written and what each then holds
 abbrev pub Promised : Lent → Type 0
@@ -170,3 +172,8 @@ Promised Lent.level-join-sheet =
     (later : List ℤ)
     → InPlace (pos 0) (λ sheet k. true) (λ sheet k. lineAt (sheetJoined sheet later) k) (λ sheet. sheetAnswer sheet later)
     (λ sheet. joinLeft sheet later)
+-- every figure
+Promised Lent.replay-sheet =
+    (records : List ℕ)
+    → InPlace 0 (λ sheet k. true) (λ sheet k. getD (replayFigures records sheet) k 0) (λ sheet. replayAnswer records sheet)
+    (λ sheet. sheetAfter records sheet)

@@ -1,5 +1,6 @@
 pub mod Status
 pub mod Told
 pub mod Control
+pub mod Night
 pub mod Slots
 pub mod Lent

@@ -30,6 +30,7 @@ mod answers;
 mod control;
 mod lease;
 mod level;
+mod night;
 mod patch;
 mod voice;
 

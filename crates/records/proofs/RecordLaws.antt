@@ -11,7 +11,7 @@ use Rattle.answer.specs.Answer.{Answer.accepted, Answer.refused}
 use Rattle.answer.specs.Demand.{_&_}
 use Rattle.answer.specs.Demand.Stops.{fails}
 use Rattle.answer.proofs.Chains.{passing, stopped, met, stops}
-use Rattle.records.specs.Record.{bigEndian, packetDemands, packetRecord, kindDemands, kindOf, byKind, recordAnswer}
+use Rattle.records.specs.Record.{bigEndian, wordsFilled, packetDemands, packetRecord, kindDemands, kindOf, byKind, recordAnswer}
 
 -- ---- words of two octets
 
@@ -34,6 +34,15 @@ word-at (suc n) (a ∷ b ∷ s) (suc i) h k =
     let p : suc i * 2 ≡ suc (suc (i * 2)) = omega arith in
     let q : suc i * 2 + 1 ≡ suc (suc (i * 2 + 1)) = omega arith in
     ap₂ (λ (x y : ℕ). getD (a ∷ b ∷ s) x 0 * 256 + getD (a ∷ b ∷ s) y 0) p q ∙ word-at n s i (omega arith) (omega arith)
+
+-- words of just so many octets, and of any other number
+pub filled-words : (octets old : List ℕ) → length octets ≡ length old * 2 → wordsFilled octets old ≡ bigEndian octets
+unfolding wordsFilled
+filled-words octets old h = simp (eq-eqb (length octets) (length old * 2) h)
+
+pub unfilled : (octets old : List ℕ) → (length octets ≡ length old * 2 → ⊥) → wordsFilled octets old ≡ old
+unfolding wordsFilled
+unfilled octets old h = simp (ne-eqb (length octets) (length old * 2) h)
 
 -- ---- a part that goes to the end
 

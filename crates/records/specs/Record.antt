@@ -50,6 +50,10 @@ bigEndian [] = []
 bigEndian (a ∷ []) = []
 bigEndian (a ∷ b ∷ s) = (a * 256 + b) ∷ bigEndian s
 
+-- what words hold after those of octets: these, where the octets are twice as many
+unfoldable pub wordsFilled : List ℕ → List ℕ → List ℕ
+wordsFilled octets old = pick (eqb (length octets) (length old * 2)) (bigEndian octets) old
+
 abbrev pub packetDemands : List ℕ → List Demand
 packetDemands payload = asks 1 0 (eqb (length payload) 62) ∷ []
 

@@ -10,7 +10,7 @@ ghost use Rattle.hd_read.specs.Read.{packetSaid};
 ghost use Rattle.madi_read.specs.Reader.{frameSaid};
 ghost use Rattle.hd_control.specs.Read.{controlSaid};
 ghost use Rattle.records.specs.Head.{sizeOf, bodySize, turnOf};
-ghost use Rattle.records.specs.Record.{outcomeSaid, blockContent, blockRecord, packetContent, packetRecord, bigEndian, frameContent, frameRecord, controlContent, controlRecord, kindOf, byKind, recordAnswer};
+ghost use Rattle.records.specs.Record.{outcomeSaid, blockContent, blockRecord, packetContent, packetRecord, wordsFilled, frameContent, frameRecord, controlContent, controlRecord, kindOf, byKind, recordAnswer};
 use answer::NumberAnswer;
 
 // The input ends; it is cut; the record is too long; there is a record to judge. With each, how many records are
@@ -134,11 +134,16 @@ fn big_endian(a: u8, b: u8) -> u16
     a as u16 * 256 + b as u16
 }
 
-// The words of twice as many octets.
-fn fill_words(octets: &[u8], words: &mut [u16])
-    requires { ⌜ length (now octets) ≡ length (now words) * 2 ⌝ }
-    ensures { λ _. ⌜ now (words .exit) ≡ bigEndian (now (octets .entry)) ⌝ }
+// The words of twice as many octets. Where there are not just so many, the words stay.
+pub fn fill_words(octets: &[u8], words: &mut [u16])
+    ensures { λ _. ⌜ now (words .exit) ≡ wordsFilled (now (octets .entry)) (now (words .entry)) ⌝ }
 {
+    if octets.len() % 2 != 0 {
+        return;
+    }
+    if octets.len() / 2 != words.len() {
+        return;
+    }
     let mut i = 0;
     while i < words.len() {
         words[i] = big_endian(octets[i * 2], octets[i * 2 + 1]);

@@ -6,3 +6,4 @@ pub mod Whole
 pub mod Walk
 pub mod Written
 pub mod Example
+pub mod NightLaws

@@ -2,16 +2,18 @@
 // Each text is made at the end of a lent buffer, and the function that makes it answers where it starts.
 ghost use mathlib.Core.Path.{_≡_};
 ghost use mathlib.Core.List.{_∷_, [], _++_};
-ghost use Prim.Native.Nat.{_+_, _≤_};
+ghost use Prim.Native.Nat.{_+_, _≤_, _<_};
 ghost use lib.ListN.{length};
 ghost use Rattle.answer.specs.Answer.{Answer.refused};
 ghost use Rattle.records.specs.Record.{outcomeSaid};
 ghost use Rattle.report.specs.Text.{heading, cutLine, decimal, singleText, pairText, answerText, lineOf, countLine};
-ghost use Rattle.report.specs.Placed.{startOf, withText};
+ghost use Rattle.report.specs.Placed.{startIn, startOf, withText};
 ghost use Rattle.report.specs.Inner.{Put};
 ghost use Rattle.report.specs.Report.{printed, stepOf};
+ghost use Rattle.report.specs.Night.{fieldText, nameOf, lastText, groupLine, refusedCount, refusedLine, refusedLines, groupLines, endText, nightHeading, figuresText};
 use records::Outcome;
 use records::Turn;
+use replay::Next;
 
 // Where the text that is printed starts, which goes to the end of the lent buffer; how many records are counted then;
 // and whether it is the report's last.
@@ -202,4 +204,152 @@ pub fn print(n: u64, head: &[u8], body: &[u8], out: &mut [u8; 128]) -> Step
             last: false,
         },
     }
+}
+
+// ---- the text of a replay, likewise made from its end
+
+// A word and a number.
+fn put_field(out: &mut [u8], end: usize, word: &[u8], n: u32) -> usize
+    requires { ⌜ (length (now word) + 20 ≤ end) × (end ≤ length (now out)) ⌝ }
+    ensures { λ r. ⌜ Put (now (out .entry)) end (fieldText (now (word .entry)) n) r (now (out .exit)) ⌝ }
+    ensures { λ r. ⌜ end ≤ r + length (now (word .entry)) + 20 ⌝ }
+{
+    let t = put_number(out, end, n as u64);
+    put(out, t, word)
+}
+
+// A group, or, for 0, the packets without one.
+fn put_name(out: &mut [u8], end: usize, group: u32) -> usize
+    requires { ⌜ (26 ≤ end) × (end ≤ length (now out)) ⌝ }
+    ensures { λ r. ⌜ Put (now (out .entry)) end (nameOf group) r (now (out .exit)) ⌝ }
+    ensures { λ r. ⌜ end ≤ r + 26 ⌝ }
+{
+    if group == 0 {
+        return put(out, end, b"unlisted");
+    }
+    put_field(out, end, b"group ", group)
+}
+
+// The last DBN, or none.
+fn put_last(out: &mut [u8], end: usize, seen: u32, last: u32) -> usize
+    requires { ⌜ (26 ≤ end) × (end ≤ length (now out)) ⌝ }
+    ensures { λ r. ⌜ Put (now (out .entry)) end (lastText seen last) r (now (out .exit)) ⌝ }
+    ensures { λ r. ⌜ end ≤ r + 26 ⌝ }
+{
+    if seen == 0 {
+        return put(out, end, b" last none");
+    }
+    put_field(out, end, b" last ", last)
+}
+
+// A figure as a longer number; a goal then has its bound beside it.
+fn wide(n: u32) -> u64
+    ensures { λ r. ⌜ r ≡ n ⌝ }
+{
+    n as u64
+}
+
+// The line of a group.
+fn put_group(out: &mut [u8], end: usize, figures: &[u32; 110], group: u32) -> usize
+    requires { ⌜ (1 ≤ group) × (group ≤ 4) × (134 ≤ end) × (end ≤ length (now out)) ⌝ }
+    ensures { λ r. ⌜ Put (now (out .entry)) end (groupLine (now (figures .entry)) group) r (now (out .exit)) ⌝ }
+    ensures { λ r. ⌜ end ≤ r + 134 ⌝ }
+{
+    let at = 23 * (group as usize - 1);
+    let read = figures[at];
+    let lanes = figures[at + 1];
+    let seen = figures[at + 20];
+    let last = figures[at + 21];
+    let breaks = figures[at + 22];
+    let t = put_single(out, end, b" breaks ", wide(breaks));
+    let t = put_last(out, t, seen, last);
+    let t = put_field(out, t, b" lanes ", lanes);
+    let t = put_field(out, t, b" read ", read);
+    put_name(out, t, group)
+}
+
+// How many packets were refused by a number: of a group, or, for 0, of those without one.
+fn refused_count(figures: &[u32; 110], group: u32, n: u32) -> u32
+    requires { ⌜ (group ≤ 4) × (n < 18) ⌝ }
+    ensures { λ r. ⌜ r ≡ refusedCount (now (figures .entry)) group n ⌝ }
+{
+    if group == 0 {
+        return figures[92 + n as usize];
+    }
+    figures[23 * (group as usize - 1) + 2 + n as usize]
+}
+
+// Their line, where there are some.
+fn put_refused(out: &mut [u8], end: usize, figures: &[u32; 110], group: u32, n: u32) -> usize
+    requires { ⌜ (group ≤ 4) × (n < 18) × (77 ≤ end) × (end ≤ length (now out)) ⌝ }
+    ensures { λ r. ⌜ Put (now (out .entry)) end (refusedLine (now (figures .entry)) group n) r (now (out .exit)) ⌝ }
+    ensures { λ r. ⌜ end ≤ r + 77 ⌝ }
+{
+    let count = refused_count(figures, group, n);
+    if count == 0 {
+        return end;
+    }
+    let t = put_pair(out, end, b" refused ", n, count);
+    put_name(out, t, group)
+}
+
+// The lines of all numbers, the last of them first.
+fn put_refusals(out: &mut [u8], end: usize, figures: &[u32; 110], group: u32) -> usize
+    requires { ⌜ (group ≤ 4) × (1386 ≤ end) × (end ≤ length (now out)) ⌝ }
+    ensures { λ r. ⌜ Put (now (out .entry)) end (refusedLines (now (figures .entry)) group) r (now (out .exit)) ⌝ }
+    ensures { λ r. ⌜ end ≤ r + 1386 ⌝ }
+{
+    let mut at = end;
+    let mut n: u32 = 18;
+    while 0 < n {
+        n -= 1;
+        at = put_refused(out, at, figures, group, n);
+    }
+    at
+}
+
+// A group's line and those of its refused packets.
+fn put_lines(out: &mut [u8], end: usize, figures: &[u32; 110], group: u32) -> usize
+    requires { ⌜ (1 ≤ group) × (group ≤ 4) × (1520 ≤ end) × (end ≤ length (now out)) ⌝ }
+    ensures { λ r. ⌜ Put (now (out .entry)) end (groupLines (now (figures .entry)) group) r (now (out .exit)) ⌝ }
+    ensures { λ r. ⌜ end ≤ r + 1520 ⌝ }
+{
+    let t = put_refusals(out, end, figures, group);
+    put_group(out, t, figures, group)
+}
+
+// How it ended.
+fn put_end(out: &mut [u8], end: usize, next: Next) -> usize
+    requires { ⌜ (5 ≤ end) × (end ≤ length (now out)) ⌝ }
+    ensures { λ r. ⌜ Put (now (out .entry)) end (endText next) r (now (out .exit)) ⌝ }
+    ensures { λ r. ⌜ end ≤ r + 5 ⌝ }
+{
+    match next {
+        Next::Going => put(out, end, b"end\n"),
+        Next::End => put(out, end, b"end\n"),
+        Next::Long => put(out, end, b"long\n"),
+        Next::Cut => put(out, end, b"cut\n"),
+        Next::Full => put(out, end, b"full\n"),
+    }
+}
+
+// The first line of a replay.
+pub fn begin_replay(out: &mut [u8; 8192]) -> usize
+    ensures { λ r. ⌜ r ≡ startIn 8192 nightHeading ⌝ }
+    ensures { λ _. ⌜ now (out .exit) ≡ withText nightHeading (now (out .entry)) ⌝ }
+{
+    put(out, 8192, b"packet replay 1\n")
+}
+
+// All other lines, of a replay that came to these figures and ended so.
+pub fn end_replay(figures: &[u32; 110], next: Next, out: &mut [u8; 8192]) -> usize
+    ensures { λ r. ⌜ r ≡ startIn 8192 (figuresText (now (figures .entry)) next) ⌝ }
+    ensures { λ _. ⌜ now (out .exit) ≡ withText (figuresText (now (figures .entry)) next) (now (out .entry)) ⌝ }
+{
+    let t = put_end(out, 8192, next);
+    let t = put_refusals(out, t, figures, 0);
+    let t = put_lines(out, t, figures, 4);
+    let t = put_lines(out, t, figures, 3);
+    let t = put_lines(out, t, figures, 2);
+    put_lines(out, t, figures, 1)
 }

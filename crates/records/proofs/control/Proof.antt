@@ -8,6 +8,7 @@ use Rattle.answer.specs.Demand.{_&_}
 use Rattle.answer.specs.Demand.Stops.{fails}
 use Rattle.answer.proofs.Chains.{passing, stopped}
 use Rattle.records.specs.Record.{controlContent, controlDemands, controlRecord}
+use Rattle.records.proofs.RecordLaws.{filled-words}
 use borrow.Author.Needs.{needs}
 use Rattle.records.proofs.control.Statement.{statement}
 use Rattle.records.proofs.control.Tie as tie
@@ -41,7 +42,7 @@ returns-2 c =
     let w = r .before .before .before in
     let e = w .before .before .before in
     c .of-control .ensures
-    ∙ ap (mapped controlContent) (r .read-control .ensures ∙ ap readAnswer (w .fill-words .ensures))
+    ∙ ap (mapped controlContent) (r .read-control .ensures ∙ ap readAnswer (w .fill-words .ensures ∙ filled-words _ _ (search needs)))
     ∙ sym (passing _ (controlDemands (e .before .before .args .octets .now)) (eq-eqb _ _ (e .if1 .left) & tt))
 
 pub control-spec : {M : Type 1} → statement M

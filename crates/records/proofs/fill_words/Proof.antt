@@ -1,18 +1,19 @@
 -- `records::fill_words` meets its contract. Assumes nothing.
-use mathlib.Core.Path.{_≡_, refl, ap₂, _∙_}
+use mathlib.Core.Path.{_≡_, refl, sym, ap₂, _∙_}
 use mathlib.Core.List.{List}
-use Prim.Native.Nat.{ℕ, _+_, _-_, _*_, _≤_, _<_}
+use Prim.Native.Nat.{ℕ, _+_, _-_, _*_, _/_, _%_, _≤_, _<_}
 use native.Mathlib.Omega.{arith}
 use borrow.Author.Needs.{needs}
 use lib.ListN.{length, getD, set}
 use Rattle.bits.proofs.Filling.{over, over-next, over-all}
 use Rattle.records.specs.Record.{bigEndian}
-use Rattle.records.proofs.RecordLaws.{length-words, word-at}
+use Rattle.records.proofs.RecordLaws.{length-words, word-at, filled-words, unfilled}
 use Rattle.records.proofs.fill_words.Statement.{statement}
 use Rattle.records.proofs.fill_words.Tie as tie
 
 abbrev Inv-loop : tie.InvT-loop
-Inv-loop octets words₀ i₀ words i = (i ≤ length words₀) × (length words ≡ length words₀) × (words ≡ over i (bigEndian octets) words₀)
+Inv-loop octets words₀ i₀ words i =
+    (length octets ≡ length words₀ * 2) × (i ≤ length words₀) × (length words ≡ length words₀) × (words ≡ over i (bigEndian octets) words₀)
 
 abbrev μ-loop : tie.MeasureT-loop
 μ-loop octets words₀ i₀ words i = length words₀ - i
@@ -25,8 +26,25 @@ word-more octets old i h l done e =
     ap₂ (λ (ws : List ℕ) (x : ℕ). set ws i x) done (e ∙ word-at (length old) octets i h l)
     ∙ over-next i (bigEndian octets) old 0 (omega (arith, length-words (length old) octets h)) (omega arith)
 
+-- octets that are not just so many
+odd : (n m : ℕ) → (n % 2 ≡ 0 → ⊥) → n ≡ m * 2 → ⊥
+odd n m h e = h (omega arith)
+
+other : (n m : ℕ) → (n / 2 ≡ m → ⊥) → n ≡ m * 2 → ⊥
+other n m h e = h (omega arith)
+
+returns : tie.Need-returns Inv-loop μ-loop
+returns c =
+    let a = c .before .before .before .args in
+    sym (unfilled (a .octets .now) (a .words .now) (odd (length (a .octets .now)) (length (a .words .now)) (c .if1 .taken)))
+
+returns-2 : tie.Need-returns-2 Inv-loop μ-loop
+returns-2 c =
+    let a = c .before .before .before .before .args in
+    sym (unfilled (a .octets .now) (a .words .now) (other (length (a .octets .now)) (length (a .words .now)) (c .if2 .taken)))
+
 loop-holds : tie.Need-loop-holds Inv-loop μ-loop
-loop-holds c = (search needs, search needs, refl)
+loop-holds c = (omega (arith, c .before .if1 .left, c .if2 .left), search needs, search needs, refl)
 
 mul-big-endian : tie.Need-mul-big-endian Inv-loop μ-loop
 mul-big-endian c = search needs
@@ -61,22 +79,24 @@ loop-less c = search needs
 loop-again : tie.Need-loop-again Inv-loop μ-loop
 loop-again c =
     let a = c .before .before .before .before in
-    let s = a .before .before .before in (
+    let s = a .before .before .before .before .before in (
+      a .loop .inv .0,
       search needs,
       search needs,
-      word-more (s .args .octets .now) (s .args .words .now) (a .loop .i) (s .pre) (omega (arith, a .loop .inv .1)) (a .loop .inv .2) (c .big-endian .ensures),
+      word-more (s .args .octets .now) (s .args .words .now) (a .loop .i) (a .loop .inv .0) (omega arith) (a .loop .inv .3) (c .big-endian .ensures),
     )
 
 same-length : tie.Need-same-length Inv-loop μ-loop
 same-length c = search needs
 
-returns : tie.Need-returns Inv-loop μ-loop
-returns c =
-    let s = c .before .before .before .before in
-    let octets = s .args .octets .now in
-    c .before .loop .inv .2
-    ∙ over-all (c .before .loop .i) (bigEndian octets) (s .args .words .now) (omega (arith, length-words (length (s .args .words .now)) octets (s .pre), c .before .loop .inv .1))
-    (omega (arith, c .before .loop .inv .1))
+returns-3 : tie.Need-returns-3 Inv-loop μ-loop
+returns-3 c =
+    let l = c .before .loop in
+    let a = c .before .before .before .before .before .before .args in
+    l .inv .3
+    ∙ over-all (l .i) (bigEndian (a .octets .now)) (a .words .now)
+    (omega (arith, length-words (length (a .words .now)) (a .octets .now) (l .inv .0))) (omega arith)
+    ∙ sym (filled-words (a .octets .now) (a .words .now) (l .inv .0))
 
 pub fill-words-spec : {M : Type 1} → statement M
 fill-words-spec =
@@ -84,6 +104,8 @@ fill-words-spec =
     (tie.spec
     Inv-loop
     μ-loop
+    returns
+    returns-2
     loop-holds
     mul-big-endian
     shared-slice-read-big-endian
@@ -97,4 +119,4 @@ fill-words-spec =
     loop-less
     loop-again
     same-length
-    returns)
+    returns-3)

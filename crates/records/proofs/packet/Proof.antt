@@ -9,6 +9,7 @@ use Rattle.answer.specs.Demand.{_&_}
 use Rattle.answer.specs.Demand.Stops.{fails}
 use Rattle.answer.proofs.Chains.{passing, stopped}
 use Rattle.records.specs.Record.{packetContent, packetDemands, packetRecord}
+use Rattle.records.proofs.RecordLaws.{filled-words}
 use borrow.Author.Needs.{needs}
 use Rattle.records.proofs.packet.Statement.{statement}
 use Rattle.records.proofs.packet.Tie as tie
@@ -45,7 +46,7 @@ returns-2 c =
     let w = r .before .before .before .before in
     let e = w .before .before .before in
     c .of-packet .ensures
-    ∙ ap (mapped packetContent) (r .read-packet .ensures .0 ∙ ap (λ (ws : List ℕ). mapped fieldsRead (readAnswer ws 4)) (w .fill-words .ensures))
+    ∙ ap (mapped packetContent) (r .read-packet .ensures .0 ∙ ap (λ (ws : List ℕ). mapped fieldsRead (readAnswer ws 4)) (w .fill-words .ensures ∙ filled-words _ _ (search needs)))
     ∙ sym (passing _ (packetDemands (e .before .before .args .octets .now)) (eq-eqb _ _ (e .if1 .left) & tt))
 
 pub packet-spec : {M : Type 1} → statement M
