@@ -255,7 +255,7 @@ expected:
 
 bench: $(ARCHIVE) program
 	@mkdir -p build
-	$(X86) cc $(CFLAGS) -O3 $(INCLUDES) -o build/bench bench/bench.c $(HAND) $(ARCHIVE)
+	bench/link build "$(X86) cc $(CFLAGS) -O3 $(INCLUDES)" $(ARCHIVE) bench/bench.c $(HAND)
 	$(X86) cc $(CFLAGS) -O3 $(INCLUDES) -o build/report_hand bench/report_hand.c $(HAND)
 	$(CC) $(CFLAGS) $(INCLUDES) -o build/mixed_records tests/second/mixed_records.c tests/second/records.c $(SPOIL) $(SECOND)
 	build/mixed_records 20000 2 >build/many.rec
