@@ -8,7 +8,7 @@
 # make sound       ten seconds of sound from sox over each carrier and back, whole and damaged
 # make promises    makes docs/WRONG-ANSWERS.md anew, from the sheets of wrong answers
 # make lib         proves the library and builds target/staticlib/liblampcoil.a for C on x86-64
-# make shared      builds build/liblampcoil.so.1 from the archive
+# make shared      builds build/liblampcoil.so.N from the archive, N the major version
 # make install     puts archive, header, pkg-config file, both programs and their manual pages under DESTDIR and PREFIX
 # make uninstall   takes them away
 # make bench       measures against C by hand and writes docs/FIGURES.md
