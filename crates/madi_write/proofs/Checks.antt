@@ -82,12 +82,12 @@ sound-met words sound =
     (λ i l h. ap not (sound i (omega arith) .0)) & (λ i l h. ap not (eq-eqb (getD words i 0 % 4) 0 (sound i (omega arith) .1))) & tt
 
 -- one word more
-pub sound-more : (words : List ℕ) (n i p : ℕ) → p ≡ parityOf (getD words i 0)
-    → (n ≡ 0 → (k : ℕ) → k < i → (evenBody (getD words k 0) ≡ true) × (getD words k 0 % 4 ≡ 0))
-    → n + (p + getD words i 0 % 4) ≡ 0 → (k : ℕ) → k < i + 1 → (evenBody (getD words k 0) ≡ true) × (getD words k 0 % 4 ≡ 0)
-sound-more words n i p e before z k h =
+pub sound-more : (words : List ℕ) (i p : ℕ) → p ≡ parityOf (getD words i 0)
+    → ((k : ℕ) → k < i → (evenBody (getD words k 0) ≡ true) × (getD words k 0 % 4 ≡ 0))
+    → p + getD words i 0 % 4 ≡ 0 → (k : ℕ) → k < i + 1 → (evenBody (getD words k 0) ≡ true) × (getD words k 0 % 4 ≡ 0)
+sound-more words i p e before z k h =
     ⊎-elim (λ (l : i ≤ k). let same : i ≡ k = omega arith in subst (λ (j : ℕ). (evenBody (getD words j 0) ≡ true) × (getD words j 0 % 4 ≡ 0)) same here)
-    (λ (l : k < i). before (omega arith) k l) (order i k)
+    (λ (l : k < i). before k l) (order i k)
   where
     here : (evenBody (getD words i 0) ≡ true) × (getD words i 0 % 4 ≡ 0)
     here = (eq-eqb (parityOf (getD words i 0)) 0 (omega arith), omega arith)

@@ -66,13 +66,27 @@ fn store(line: &mut [u8], j: usize, y: u64, n: usize)
     }
 }
 
-// 40 bits after a level, into five octets of line from octet 5 b on; gives the level that they leave.
+// The five octets of the lowest 40 bits of y, into line from octet j on. The first comes last: the four behind it are then
+// stored at once, which five in a row are not.
+fn store_five(line: &mut [u8], j: usize, y: u64)
+    requires { ⌜ j + 5 ≤ length (now line) ⌝ }
+    ensures { λ r. ⌜ Stored j y 5 (now (line .entry)) (now (line .exit)) ⌝ }
+{
+    line[j + 1] = (y / 0x100_0000 % 256) as u8;
+    line[j + 2] = (y / 0x1_0000 % 256) as u8;
+    line[j + 3] = (y / 256 % 256) as u8;
+    line[j + 4] = (y % 256) as u8;
+    line[j] = (y / 0x1_0000_0000 % 256) as u8;
+}
+
+// 40 bits after a level, into five octets of line from octet 5 b on; gives the level that they leave. Their levels after
+// level 0 wait for no block before them; level 1 inverts them all, and itself.
 fn lay(line: &mut [u8], b: usize, last: u64, x: u64) -> u64
     requires { ⌜ (b < 2 ^ 8) × (last < 2) × (x < 2 ^ 40) × (5 * b + 5 ≤ length (now line)) ⌝ }
     ensures { λ r. ⌜ Laid b last x r (now (line .entry)) (now (line .exit)) ⌝ }
 {
-    let y = levels_after(last * 0x100_0000_0000 + x);
-    store(line, 5 * b, y, 5);
+    let y = levels_after(x) ^ last * 0x1FF_FFFF_FFFF;
+    store_five(line, 5 * b, y);
     y % 2
 }
 
@@ -97,7 +111,7 @@ fn fill(channels: usize, words: &[u32], commands: &[u8], level: u32, line: &mut 
     }
     let rest = levels_after(last * 0x100_0000_0000 + idle);
     while b < channels {
-        store(line, 5 * b, rest, 5);
+        store_five(line, 5 * b, rest);
         b += 1;
     }
     while b < whole {
@@ -111,18 +125,20 @@ fn fill(channels: usize, words: &[u32], commands: &[u8], level: u32, line: &mut 
     store(line, 5 * whole, y << (40 - 10 * k), (10 * k + 7) / 8);
 }
 
-// Nothing where every word passes both checks.
-fn faults(words: &[u32]) -> u32
+// Whether every word passes both checks.
+fn are_sound(words: &[u32]) -> bool
     requires { ⌜ length (now words) ≤ 64 ⌝ }
-    ensures { λ r. ⌜ (r ≡ 0 → Sound (now (words .entry))) ⌝ }
+    ensures { λ r. ⌜ (r ≡ true → Sound (now (words .entry))) ⌝ }
 {
-    let mut n: u32 = 0;
     let mut i = 0;
     while i < words.len() {
-        n = n + (subframe::parity(words[i]) + words[i] % 4);
+        let w = words[i];
+        if subframe::parity(w) + w % 4 != 0 {
+            return false;
+        }
         i += 1;
     }
-    n
+    true
 }
 
 // The first word of odd parity, then the first with bit 0 or 1 set.
@@ -160,7 +176,7 @@ fn check_words(words: &[u32]) -> Verdict
     requires { ⌜ length (now words) ≤ 64 ⌝ }
     ensures { λ r. ⌜ verdictSaid r ≡ provided (channelWordDemands (now (words .entry))) (accepted tt) ⌝ }
 {
-    if faults(words) == 0 {
+    if are_sound(words) {
         return Verdict::Accepted;
     }
     find_fault(words)

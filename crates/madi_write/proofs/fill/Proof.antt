@@ -148,13 +148,13 @@ loop2-holds c =
     let a = start o .args in
     (omega arith, omega arith, passed-first (a .channels) (a .words .now) (a .commands .now) (a .level) (o .loop .line) (o .loop .last) (o .loop .b) (o .loop .inv .1 .1))
 
-mul-store : tie.Need-mul-store Inv-loop μ-loop Inv-loop2 μ-loop2 Inv-loop3 μ-loop3
-mul-store c = omega arith
+mul-store-five : tie.Need-mul-store-five Inv-loop μ-loop Inv-loop2 μ-loop2 Inv-loop3 μ-loop3
+mul-store-five c = omega arith
 
-store-requires : tie.Need-store-requires Inv-loop μ-loop Inv-loop2 μ-loop2 Inv-loop3 μ-loop3
-store-requires c κs =
+store-five-requires : tie.Need-store-five-requires Inv-loop μ-loop Inv-loop2 μ-loop2 Inv-loop3 μ-loop3
+store-five-requires c κs =
     let p = c .before .before in
-    (omega arith, omega (arith, p .loop2 .inv .2 .0, first-loop p .loop .inv .1 .0))
+    omega (arith, p .loop2 .inv .2 .0, first-loop p .loop .inv .1 .0)
 
 add-b-2 : tie.Need-add-b-2 Inv-loop μ-loop Inv-loop2 μ-loop2 Inv-loop3 μ-loop3
 add-b-2 c = omega arith
@@ -177,7 +177,7 @@ loop2-again c =
       passed-next (a .channels) (a .words .now) (a .commands .now) (a .level) (omega arith) (o .loop .line) (o .loop .b) (p .loop2 .line) (o .loop .last) (p .loop2 .b) _ _ _
           (omega arith) (c .before .line2 .given)
           (idle-block (a .channels) (a .words .now) (a .commands .now) (a .level) (omega arith) (p .loop2 .b) (omega arith) (omega arith))
-          (y, same, sym (idle-level (o .loop .last) y (first-lt o) same), c .before .before .store .ensures) (p .loop2 .inv .2),
+          (y, same, sym (idle-level (o .loop .last) y (first-lt o) same), c .before .before .store-five .ensures) (p .loop2 .inv .2),
     )
 
 loop3-holds : tie.Need-loop3-holds Inv-loop μ-loop Inv-loop2 μ-loop2 Inv-loop3 μ-loop3
@@ -284,11 +284,11 @@ add-levels-after-2 c =
 levels-after-requires-2 : tie.Need-levels-after-requires-2 Inv-loop μ-loop Inv-loop2 μ-loop2 Inv-loop3 μ-loop3
 levels-after-requires-2 c κs = search needs
 
+mul-store : tie.Need-mul-store Inv-loop μ-loop Inv-loop2 μ-loop2 Inv-loop3 μ-loop3
+mul-store c = search needs
+
 mul-store-2 : tie.Need-mul-store-2 Inv-loop μ-loop Inv-loop2 μ-loop2 Inv-loop3 μ-loop3
 mul-store-2 c = search needs
-
-mul-store-3 : tie.Need-mul-store-3 Inv-loop μ-loop Inv-loop2 μ-loop2 Inv-loop3 μ-loop3
-mul-store-3 c = search needs
 
 sub-store : tie.Need-sub-store Inv-loop μ-loop Inv-loop2 μ-loop2 Inv-loop3 μ-loop3
 sub-store c = search needs
@@ -296,14 +296,14 @@ sub-store c = search needs
 shl-store : tie.Need-shl-store Inv-loop μ-loop Inv-loop2 μ-loop2 Inv-loop3 μ-loop3
 shl-store c = search needs
 
-mul-store-4 : tie.Need-mul-store-4 Inv-loop μ-loop Inv-loop2 μ-loop2 Inv-loop3 μ-loop3
-mul-store-4 c = search needs
+mul-store-3 : tie.Need-mul-store-3 Inv-loop μ-loop Inv-loop2 μ-loop2 Inv-loop3 μ-loop3
+mul-store-3 c = search needs
 
 add-store : tie.Need-add-store Inv-loop μ-loop Inv-loop2 μ-loop2 Inv-loop3 μ-loop3
 add-store c = search needs
 
-store-requires-2 : tie.Need-store-requires-2 Inv-loop μ-loop Inv-loop2 μ-loop2 Inv-loop3 μ-loop3
-store-requires-2 c κs =
+store-requires : tie.Need-store-requires Inv-loop μ-loop Inv-loop2 μ-loop2 Inv-loop3 μ-loop3
+store-requires c κs =
     let p = c .before .before .before .before .before in
     (omega arith, omega (arith, long p))
 
@@ -344,7 +344,7 @@ returns c =
     omega (arith, e, window-lt (levelled p) (40 * whole) 41) in
     let z : p .loop3 .b ≡ whole = omega arith in
     let w : 5 * whole + (10 * k + 7) / 8 ≡ needed (a .channels) (length (a .commands .now)) = omega arith in
-    c .before .before .store2 .ensures new (a .line .now) (omega (arith, n, w)) (omega (arith, w, start3 p .pre .6))
+    c .before .before .store .ensures new (a .line .now) (omega (arith, n, w)) (omega (arith, w, start3 p .pre .6))
     (λ i hi. octet-right (a .channels) (a .words .now) (a .commands .now) (a .level) (omega arith) whole i (y * 2 ^ (40 - 10 * k) % 2 ^ 64) (omega arith) (omega arith)
     (mod-eq-of-lt small ∙ e))
     (passed p ∙ ap (λ (m : ℕ). over (5 * m) new (a .line .now)) z)
@@ -376,8 +376,8 @@ fill-spec =
     add-levels-after
     levels-after-requires
     loop2-holds
-    mul-store
-    store-requires
+    mul-store-five
+    store-five-requires
     add-b-2
     loop2-less
     loop2-again
@@ -393,12 +393,12 @@ fill-spec =
     shl-levels-after
     add-levels-after-2
     levels-after-requires-2
+    mul-store
     mul-store-2
-    mul-store-3
     sub-store
     shl-store
-    mul-store-4
+    mul-store-3
     add-store
-    store-requires-2
+    store-requires
     same-length
     returns)

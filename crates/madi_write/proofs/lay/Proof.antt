@@ -1,24 +1,24 @@
 -- `madi_write::lay` meets its contract. Assumes nothing.
 use mathlib.Core.Path.{refl}
+use Prim.Native.Nat.{_-_, _*_, _^_}
 use native.Mathlib.Omega.{arith}
 use borrow.Author.Needs.{needs}
+use lib.Bits.{bitXor}
+use Rattle.madi_write.proofs.Storing.{levels-inverted}
 use Rattle.madi_write.proofs.lay.Statement.{statement}
 use Rattle.madi_write.proofs.lay.Tie as tie
-
-mul-levels-after : tie.Need-mul-levels-after
-mul-levels-after c = omega arith
-
-add-levels-after : tie.Need-add-levels-after
-add-levels-after c = omega arith
 
 levels-after-requires : tie.Need-levels-after-requires
 levels-after-requires c κs = search needs
 
-mul-store : tie.Need-mul-store
-mul-store c = omega arith
+mul-y : tie.Need-mul-y
+mul-y c = omega arith
 
-store-requires : tie.Need-store-requires
-store-requires c κs = (omega arith, omega arith)
+mul-store-five : tie.Need-mul-store-five
+mul-store-five c = omega arith
+
+store-five-requires : tie.Need-store-five-requires
+store-five-requires c κs = omega arith
 
 same-length : tie.Need-same-length
 same-length c = search needs
@@ -26,7 +26,12 @@ same-length c = search needs
 returns : tie.Need-returns
 returns c =
     let l = c .before .before .before .before in
-    (l .levels-after .result, l .levels-after .ensures, refl, c .before .before .store .ensures)
+    let a = l .before .before .args in (
+      bitXor (l .levels-after .result) (a .last * (2 ^ 41 - 1)),
+      levels-inverted (a .last) (a .x) (l .levels-after .result) (omega arith) (omega arith) (l .levels-after .ensures),
+      refl,
+      c .before .before .store-five .ensures,
+    )
 
 pub lay-spec : {M : Type 1} → statement M
-lay-spec = tie.close (tie.spec mul-levels-after add-levels-after levels-after-requires mul-store store-requires same-length returns)
+lay-spec = tie.close (tie.spec levels-after-requires mul-y mul-store-five store-five-requires same-length returns)
