@@ -6,6 +6,7 @@ use native.Mathlib.Nat.{div-one}
 use native.Mathlib.Omega.{arith}
 use borrow.Author.Tests.{ltb-true, lt-ltb}
 use lib.Dec.{ltb}
+use lib.Pow.{shr-shr}
 use lib.ListN.{length, getD}
 use Rattle.bits.specs.Row.{Row, bits, bigBits, big}
 use Rattle.bits.specs.Window.{part, window}
@@ -13,7 +14,21 @@ use Rattle.bits.proofs.Tests.{pick-cases}
 use Rattle.madi_code.specs.Groups.{groupCode, groupOf}
 use Rattle.madi_code.specs.Channels.{channelRow, channelFrom, channelOf}
 use Rattle.bits.proofs.Lists.{getD-listed, listed-all}
-use Rattle.madi_code.specs.Inner.{Sends, groupTable, eightGroups, meant, Means, meaningTable, eightSum, eightFours, wordByTable, channelBy}
+use Rattle.madi_code.specs.Inner.{
+  Sends,
+  groupTable,
+  fourGroups,
+  eightGroups,
+  meant,
+  Means,
+  meaningTable,
+  fourSum,
+  fourFours,
+  eightSum,
+  eightFours,
+  wordByTable,
+  channelBy,
+}
 use Rattle.madi_code.specs.declared.Group.the-variants.{Data}
 use Rattle.madi_code.specs.declared.ChannelBits.{ChannelBits}
 use Rattle.madi_code.specs.declared.ChannelBits.the-variants.{Word}
@@ -23,7 +38,7 @@ use Rattle.madi_code.proofs.ChannelLaws.{groups-next, groups-all, group
 -- ---- sent
 
 pub groups-sent : (t : List ℕ) (w : ℕ) → Sends t → eightGroups t w ≡ big (channelRow w)
-unfolding eightGroups window part big
+unfolding fourGroups eightGroups window part big
 groups-sent t w right =
     sym (sym (groups-all w) ∙ omega (
       arith,
@@ -40,11 +55,14 @@ groups-sent t w right =
       right (w / 2 ^ 8 % 16) (omega arith),
       right (w / 2 ^ 12 % 16) (omega arith),
       right (w / 2 ^ 16 % 16) (omega arith),
-      right (w / 2 ^ 20 % 16) (omega arith),
-      right (w / 2 ^ 24 % 16) (omega arith),
-      right (w / 2 ^ 28 % 16) (omega arith),
+      late 4,
+      late 8,
+      late 12,
       ap (λ (x : ℕ). groupCode (big (bits 4 (x % 16)))) (div-one w),
     ))
+  where
+    late : (k : ℕ) → getD t (w / 2 ^ 16 / 2 ^ k % 16) 0 ≡ groupCode (big (bits 4 (w / 2 ^ (16 + k) % 16)))
+    late k = right (w / 2 ^ 16 / 2 ^ k % 16) (omega arith) ∙ ap (λ (x : ℕ). groupCode (big (bits 4 (x % 16)))) (shr-shr w 16 k)
 
 -- ---- received
 
@@ -72,11 +90,17 @@ module _ (t : List ℕ) (v : ℕ) (right : Means t) where
   unfolding at place
   last = ap (λ (x : ℕ). getD t (x % 32) 0) (div-one v)
 
+  early : (k : ℕ) → getD t (v / 2 ^ 20 / 2 ^ k % 32) 0 ≡ getD t (v / 2 ^ (20 + k) % 32) 0
+  early k = ap (λ (x : ℕ). getD t (x % 32) 0) (shr-shr v 20 k)
+
   -- eight sayings below 128 together are eight data groups
   eight : eightSum t v < 128 → (eightFours t v < 2 ^ 32) × (channelOf (bigBits 40 v) ≡ Word (eightFours t v))
-  unfolding eightSum eightFours channelOf channelFrom at place
+  unfolding fourSum fourFours eightSum eightFours channelOf channelFrom at place
   eight h =
       let z = last in
+      let a0 = early 15 in
+      let b0 = early 10 in
+      let c0 = early 5 in
       let w1 : ℕ = 0 + at 0 * 2 ^ 0 in
       let w2 : ℕ = w1 + at 1 * 2 ^ 4 in
       let w3 : ℕ = w2 + at 2 * 2 ^ 8 in

@@ -9,6 +9,7 @@ use Rattle.bits.specs.Row.{bits, bigBits, little, big}
 use Rattle.bits.specs.Listed.{listed}
 use Rattle.madi_code.specs.Groups.{groupCode, isHalf}
 use Rattle.madi_code.specs.Channels.{channelOf}
+use Rattle.madi_code.specs.declared.Fours.{Fours}
 use Rattle.madi_code.specs.declared.ChannelBits.{ChannelBits}
 use Rattle.madi_code.specs.declared.ChannelBits.the-variants.{Word}
 
@@ -22,11 +23,13 @@ Sends t = (x : ℕ) → x < 16 → getD t x 0 ≡ groupCode (big (bits 4 x))
 unfoldable pub groupTable : List ℕ
 groupTable = listed 0 16 (λ x. groupCode (big (bits 4 x)))
 
--- forty bits, from what a table of 16 says of the eight fours of a word
+-- twenty bits, from what a table of 16 says of the four fours of sixteen bits
+unfoldable pub fourGroups : List ℕ → ℕ → ℕ
+fourGroups t w = getD t (w % 16) 0 * 2 ^ 15 + getD t (w / 2 ^ 4 % 16) 0 * 2 ^ 10 + getD t (w / 2 ^ 8 % 16) 0 * 2 ^ 5 + getD t (w / 2 ^ 12 % 16) 0
+
+-- forty bits, from the two halves of a word
 unfoldable pub eightGroups : List ℕ → ℕ → ℕ
-eightGroups t w =
-    getD t (w % 16) 0 * 2 ^ 35 + getD t (w / 2 ^ 4 % 16) 0 * 2 ^ 30 + getD t (w / 2 ^ 8 % 16) 0 * 2 ^ 25 + getD t (w / 2 ^ 12 % 16) 0 * 2 ^ 20
-    + getD t (w / 2 ^ 16 % 16) 0 * 2 ^ 15 + getD t (w / 2 ^ 20 % 16) 0 * 2 ^ 10 + getD t (w / 2 ^ 24 % 16) 0 * 2 ^ 5 + getD t (w / 2 ^ 28 % 16) 0
+eightGroups t w = fourGroups t w * 2 ^ 20 + fourGroups t (w / 2 ^ 16)
 
 -- ---- received
 
@@ -43,17 +46,24 @@ Means t = (g : ℕ) → g < 32 → getD t g 0 ≡ meant g
 unfoldable pub meaningTable : List ℕ
 meaningTable = listed 0 32 meant
 
--- what a table of 32 says of the eight groups of forty bits, added up as it stands
-unfoldable pub eightSum : List ℕ → ℕ → ℕ
-eightSum t v =
-    getD t (v / 2 ^ 35 % 32) 0 + getD t (v / 2 ^ 30 % 32) 0 + getD t (v / 2 ^ 25 % 32) 0 + getD t (v / 2 ^ 20 % 32) 0 + getD t (v / 2 ^ 15 % 32) 0
-    + getD t (v / 2 ^ 10 % 32) 0 + getD t (v / 2 ^ 5 % 32) 0 + getD t (v % 32) 0
+-- what a table of 32 says of the four groups of twenty bits, added up as it stands
+unfoldable pub fourSum : List ℕ → ℕ → ℕ
+fourSum t v = getD t (v / 2 ^ 15 % 32) 0 + getD t (v / 2 ^ 10 % 32) 0 + getD t (v / 2 ^ 5 % 32) 0 + getD t (v % 32) 0
 
--- and as the fours of a word
+-- and as the fours of sixteen bits
+unfoldable pub fourFours : List ℕ → ℕ → ℕ
+fourFours t v = getD t (v / 2 ^ 15 % 32) 0 + getD t (v / 2 ^ 10 % 32) 0 * 2 ^ 4 + getD t (v / 2 ^ 5 % 32) 0 * 2 ^ 8 + getD t (v % 32) 0 * 2 ^ 12
+
+-- both, whatever the table's octets are
+abbrev pub FoursOf : List ℕ → ℕ → Fours → Type 0
+FoursOf t v r = (r .sum ≡ fourSum t v) × (r .sum < 2 ^ 10) × (r .word ≡ fourFours t v) × (r .word < 2 ^ 24)
+
+-- the same of the eight groups of forty bits
+unfoldable pub eightSum : List ℕ → ℕ → ℕ
+eightSum t v = fourSum t (v / 2 ^ 20) + fourSum t v
+
 unfoldable pub eightFours : List ℕ → ℕ → ℕ
-eightFours t v =
-    getD t (v / 2 ^ 35 % 32) 0 + getD t (v / 2 ^ 30 % 32) 0 * 2 ^ 4 + getD t (v / 2 ^ 25 % 32) 0 * 2 ^ 8 + getD t (v / 2 ^ 20 % 32) 0 * 2 ^ 12
-    + getD t (v / 2 ^ 15 % 32) 0 * 2 ^ 16 + getD t (v / 2 ^ 10 % 32) 0 * 2 ^ 20 + getD t (v / 2 ^ 5 % 32) 0 * 2 ^ 24 + getD t (v % 32) 0 * 2 ^ 28
+eightFours t v = fourFours t (v / 2 ^ 20) + fourFours t v * 2 ^ 16
 
 -- the word where all are data groups, else 2 ^ 32
 unfoldable pub wordByTable : List ℕ → ℕ → ℕ

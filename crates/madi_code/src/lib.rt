@@ -1,13 +1,13 @@
 // MADI's channel counts and five-bit groups, and a channel's word as the 40 bits that send it.
 // Reader and writer lay a table of groups out once and lend it for all channels of a frame.
 ghost use mathlib.Core.Path.{_≡_};
-ghost use Prim.Native.Nat.{_<_};
+ghost use Prim.Native.Nat.{_%_, _^_, _<_};
 ghost use Rattle.bits.specs.Row.{bigBits, big};
-ghost use lib.ListN.{take};
+ghost use lib.ListN.{take, getD};
 ghost use Rattle.madi_code.specs.Frame.{counted, synced};
 ghost use Rattle.madi_code.specs.Groups.{groupCodes, commandCodes, commandOf, groupOf};
 ghost use Rattle.madi_code.specs.Channels.{channelRow, channelOf};
-ghost use Rattle.madi_code.specs.Inner.{eightGroups, wordByTable, channelBy, groupTable, meaningTable};
+ghost use Rattle.madi_code.specs.Inner.{fourGroups, eightGroups, FoursOf, wordByTable, channelBy, groupTable, meaningTable};
 
 mod tables;
 
@@ -32,6 +32,12 @@ pub enum Group {
 pub enum ChannelBits {
     Word(u32),
     Broken(u32),
+}
+
+// What four groups mean together: added up, which shows whether all are data groups, and as 16 bits of a word.
+struct Fours {
+    sum: u64,
+    word: u64,
 }
 
 // Whether a frame can have so many channels.
@@ -92,26 +98,28 @@ pub fn groups() -> [u8; 16]
     table
 }
 
+// The group of the lowest four bits of w by a table.
+fn group_by(table: &[u8; 16], w: u32) -> u64
+    ensures { λ r. ⌜ (r ≡ getD (now (table .entry)) (w % 16) 0) × (r < 256) ⌝ }
+{
+    wide(table[(w % 16) as usize])
+}
+
+// The four groups of the lowest 16 bits of w, the earliest highest.
+fn four_groups(table: &[u8; 16], w: u32) -> u64
+    ensures { λ r. ⌜ (r ≡ fourGroups (now (table .entry)) w) × (r < 2 ^ 24) ⌝ }
+{
+    group_by(table, w) * 0x8000
+        + group_by(table, w >> 4) * 0x400
+        + group_by(table, w >> 8) * 0x20
+        + group_by(table, w >> 12)
+}
+
 // The 40 bits of a channel's word by a table of groups, the earliest highest.
 pub fn bits_by(table: &[u8; 16], w: u32) -> u64
     ensures { λ r. ⌜ r ≡ eightGroups (now (table .entry)) w ⌝ }
 {
-    let a = wide(table[(w % 16) as usize]);
-    let b = wide(table[((w >> 4) % 16) as usize]);
-    let c = wide(table[((w >> 8) % 16) as usize]);
-    let d = wide(table[((w >> 12) % 16) as usize]);
-    let e = wide(table[((w >> 16) % 16) as usize]);
-    let f = wide(table[((w >> 20) % 16) as usize]);
-    let g = wide(table[((w >> 24) % 16) as usize]);
-    let h = wide(table[((w >> 28) % 16) as usize]);
-    a * 0x8_0000_0000
-        + b * 0x4000_0000
-        + c * 0x200_0000
-        + d * 0x10_0000
-        + e * 0x8000
-        + f * 0x400
-        + g * 0x20
-        + h
+    four_groups(table, w) * 0x10_0000 + four_groups(table, w >> 16)
 }
 
 // The same of one channel alone.
@@ -184,28 +192,36 @@ pub fn meanings() -> [u8; 32]
     MEANT
 }
 
+// What the lowest five bits of v mean by a table.
+fn meaning_by(table: &[u8; 32], v: u64) -> u64
+    ensures { λ r. ⌜ (r ≡ getD (now (table .entry)) (v % 32) 0) × (r < 256) ⌝ }
+{
+    wide(table[(v % 32) as usize])
+}
+
+// What the four groups of the lowest 20 bits of v mean.
+fn four_meanings(table: &[u8; 32], v: u64) -> Fours
+    ensures { λ r. ⌜ FoursOf (now (table .entry)) v r ⌝ }
+{
+    let a = meaning_by(table, v >> 15);
+    let b = meaning_by(table, v >> 10);
+    let c = meaning_by(table, v >> 5);
+    let d = meaning_by(table, v);
+    Fours {
+        sum: a + b + c + d,
+        word: a + b * 0x10 + c * 0x100 + d * 0x1000,
+    }
+}
+
 // The word of the lowest 40 bits of v by a table of meanings, the earliest bit highest; 2 ^ 32 where they are not all
 // data groups.
 pub fn word_by(table: &[u8; 32], v: u64) -> u64
     ensures { λ r. ⌜ r ≡ wordByTable (now (table .entry)) v ⌝ }
 {
-    let a = wide(table[((v >> 35) % 32) as usize]);
-    let b = wide(table[((v >> 30) % 32) as usize]);
-    let c = wide(table[((v >> 25) % 32) as usize]);
-    let d = wide(table[((v >> 20) % 32) as usize]);
-    let e = wide(table[((v >> 15) % 32) as usize]);
-    let f = wide(table[((v >> 10) % 32) as usize]);
-    let g = wide(table[((v >> 5) % 32) as usize]);
-    let h = wide(table[(v % 32) as usize]);
-    if a + b + c + d + e + f + g + h < 128 {
-        return a
-            + b * 0x10
-            + c * 0x100
-            + d * 0x1000
-            + e * 0x1_0000
-            + f * 0x10_0000
-            + g * 0x100_0000
-            + h * 0x1000_0000;
+    let early = four_meanings(table, v >> 20);
+    let late = four_meanings(table, v);
+    if early.sum + late.sum < 128 {
+        return early.word + late.word * 0x1_0000;
     }
     0x1_0000_0000
 }

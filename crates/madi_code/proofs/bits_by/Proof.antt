@@ -1,177 +1,25 @@
--- `madi_code::bits_by` meets its contract: eight loads, side by side. Assumes nothing.
+-- `madi_code::bits_by` meets its contract: the two halves, side by side. Assumes nothing.
 use borrow.Author.Needs.{needs}
 use Rattle.madi_code.specs.Inner.{eightGroups}
 use Rattle.madi_code.proofs.bits_by.Statement.{statement}
 use Rattle.madi_code.proofs.bits_by.Tie as tie
 
-cast-wide : tie.Need-cast-wide
-cast-wide c = search needs
-
-element-copy-out-wide : tie.Need-element-copy-out-wide
-element-copy-out-wide c = search needs
-
-wide-requires : tie.Need-wide-requires
-wide-requires c κs = search needs
-
-cast-wide-2 : tie.Need-cast-wide-2
-cast-wide-2 c = search needs
-
-element-copy-out-wide-2 : tie.Need-element-copy-out-wide-2
-element-copy-out-wide-2 c = search needs
-
-wide-requires-2 : tie.Need-wide-requires-2
-wide-requires-2 c κs = search needs
-
-cast-wide-3 : tie.Need-cast-wide-3
-cast-wide-3 c = search needs
-
-element-copy-out-wide-3 : tie.Need-element-copy-out-wide-3
-element-copy-out-wide-3 c = search needs
-
-wide-requires-3 : tie.Need-wide-requires-3
-wide-requires-3 c κs = search needs
-
-cast-wide-4 : tie.Need-cast-wide-4
-cast-wide-4 c = search needs
-
-element-copy-out-wide-4 : tie.Need-element-copy-out-wide-4
-element-copy-out-wide-4 c = search needs
-
-wide-requires-4 : tie.Need-wide-requires-4
-wide-requires-4 c κs = search needs
-
-cast-wide-5 : tie.Need-cast-wide-5
-cast-wide-5 c = search needs
-
-element-copy-out-wide-5 : tie.Need-element-copy-out-wide-5
-element-copy-out-wide-5 c = search needs
-
-wide-requires-5 : tie.Need-wide-requires-5
-wide-requires-5 c κs = search needs
-
-cast-wide-6 : tie.Need-cast-wide-6
-cast-wide-6 c = search needs
-
-element-copy-out-wide-6 : tie.Need-element-copy-out-wide-6
-element-copy-out-wide-6 c = search needs
-
-wide-requires-6 : tie.Need-wide-requires-6
-wide-requires-6 c κs = search needs
-
-cast-wide-7 : tie.Need-cast-wide-7
-cast-wide-7 c = search needs
-
-element-copy-out-wide-7 : tie.Need-element-copy-out-wide-7
-element-copy-out-wide-7 c = search needs
-
-wide-requires-7 : tie.Need-wide-requires-7
-wide-requires-7 c κs = search needs
-
-cast-wide-8 : tie.Need-cast-wide-8
-cast-wide-8 c = search needs
-
-element-copy-out-wide-8 : tie.Need-element-copy-out-wide-8
-element-copy-out-wide-8 c = search needs
-
-wide-requires-8 : tie.Need-wide-requires-8
-wide-requires-8 c κs = search needs
+four-groups-requires : tie.Need-four-groups-requires
+four-groups-requires c κs = search needs
 
 mul-result : tie.Need-mul-result
 mul-result c = search needs
 
-mul-result-2 : tie.Need-mul-result-2
-mul-result-2 c = search needs
+four-groups-requires-2 : tie.Need-four-groups-requires-2
+four-groups-requires-2 c κs = search needs
 
 add-result : tie.Need-add-result
 add-result c = search needs
 
-mul-result-3 : tie.Need-mul-result-3
-mul-result-3 c = search needs
-
-add-result-2 : tie.Need-add-result-2
-add-result-2 c = search needs
-
-mul-result-4 : tie.Need-mul-result-4
-mul-result-4 c = search needs
-
-add-result-3 : tie.Need-add-result-3
-add-result-3 c = search needs
-
-mul-result-5 : tie.Need-mul-result-5
-mul-result-5 c = search needs
-
-add-result-4 : tie.Need-add-result-4
-add-result-4 c = search needs
-
-mul-result-6 : tie.Need-mul-result-6
-mul-result-6 c = search needs
-
-add-result-5 : tie.Need-add-result-5
-add-result-5 c = search needs
-
-mul-result-7 : tie.Need-mul-result-7
-mul-result-7 c = search needs
-
-add-result-6 : tie.Need-add-result-6
-add-result-6 c = search needs
-
-add-result-7 : tie.Need-add-result-7
-add-result-7 c = search needs
-
 returns : tie.Need-returns
 unfolding eightGroups
-returns c =
-    rw (
-      c .before .before .before .before .before .before .before .before .before .before .before .before .before .before .wide .ensures .0,
-      c .before .before .before .before .before .before .before .before .before .before .before .before .wide2 .ensures .0,
-      c .before .before .before .before .before .before .before .before .before .before .wide3 .ensures .0,
-      c .before .before .before .before .before .before .before .before .wide4 .ensures .0,
-      c .before .before .before .before .before .before .wide5 .ensures .0,
-      c .before .before .before .before .wide6 .ensures .0,
-      c .before .before .wide7 .ensures .0,
-      c .wide8 .ensures .0,
-    )
+returns c = search needs
 
 pub bits-by-spec : {M : Type 1} → statement M
 bits-by-spec =
-    tie.close
-    (tie.spec
-    cast-wide
-    element-copy-out-wide
-    wide-requires
-    cast-wide-2
-    element-copy-out-wide-2
-    wide-requires-2
-    cast-wide-3
-    element-copy-out-wide-3
-    wide-requires-3
-    cast-wide-4
-    element-copy-out-wide-4
-    wide-requires-4
-    cast-wide-5
-    element-copy-out-wide-5
-    wide-requires-5
-    cast-wide-6
-    element-copy-out-wide-6
-    wide-requires-6
-    cast-wide-7
-    element-copy-out-wide-7
-    wide-requires-7
-    cast-wide-8
-    element-copy-out-wide-8
-    wide-requires-8
-    mul-result
-    mul-result-2
-    add-result
-    mul-result-3
-    add-result-2
-    mul-result-4
-    add-result-3
-    mul-result-5
-    add-result-4
-    mul-result-6
-    add-result-5
-    mul-result-7
-    add-result-6
-    add-result-7
-    returns)
+    tie.close (tie.spec four-groups-requires mul-result four-groups-requires-2 add-result returns)
