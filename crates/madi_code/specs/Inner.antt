@@ -72,3 +72,7 @@ wordByTable t v = pick (ltb (eightSum t v) 128) (eightFours t v) (2 ^ 32)
 -- a channel by that word, and else by its groups
 unfoldable pub channelBy : List ℕ → ℕ → ChannelBits
 channelBy t v = pick (ltb (wordByTable t v) (2 ^ 32)) (Word (wordByTable t v)) (channelOf (bigBits 40 v))
+
+-- where in a table of 32 the command stands that ten bits may be
+unfoldable pub placeIn : ℕ → ℕ
+placeIn v = v % 2 ^ 10 * 7 / 8 % 32

@@ -7,13 +7,14 @@ ghost use lib.ListN.{take, getD};
 ghost use Rattle.madi_code.specs.Frame.{counted, synced};
 ghost use Rattle.madi_code.specs.Groups.{groupCodes, commandCodes, commandOf, groupOf};
 ghost use Rattle.madi_code.specs.Channels.{channelRow, channelOf};
-ghost use Rattle.madi_code.specs.Inner.{fourGroups, eightGroups, FoursOf, wordByTable, channelBy, groupTable, meaningTable};
+ghost use Rattle.madi_code.specs.Inner.{fourGroups, eightGroups, FoursOf, wordByTable, channelBy, groupTable, meaningTable, placeIn};
 
 mod tables;
 
 use tables::COMMANDS;
 use tables::GROUPS;
 use tables::MEANT;
+use tables::PLACED;
 use tables::TURNED;
 
 // The default sync, which is command 0.
@@ -156,16 +157,20 @@ pub fn decode_group(g: u8) -> Group
     Group::Nothing
 }
 
-// The command that ten bits are, by a search through all of them.
+// The place in PLACED of the command that ten bits may be.
+fn place_of(v: u64) -> usize
+    ensures { λ r. ⌜ (r ≡ placeIn v) × (r < 32) ⌝ }
+{
+    (v % 1024 * 7 / 8 % 32) as usize
+}
+
+// The command that ten bits are, or 16: one entry is looked at, which has the command's code in it.
 fn listed_command(v: u64) -> u32
     ensures { λ r. ⌜ r ≡ commandOf v ⌝ }
 {
-    let mut c: u32 = 0;
-    while c < 16 {
-        if COMMANDS[c as usize] as u64 == v {
-            return c;
-        }
-        c += 1;
+    let e = PLACED[place_of(v)] as u64;
+    if e / 16 == v {
+        return (e % 16) as u32;
     }
     16
 }
