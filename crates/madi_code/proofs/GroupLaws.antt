@@ -3,10 +3,10 @@ use mathlib.Core.Path.{_≡_, refl, sym, ap, _∙_}
 use mathlib.Core.Bool.{Bool, true, false, _&&_, _||_}
 use mathlib.Core.List.{List, [], _∷_}
 use mathlib.Core.Logic.{⊎-elim}
-use Prim.Native.Nat.{ℕ, _+_, _/_, _%_, _^_, _≤_, _<_}
+use Prim.Native.Nat.{ℕ, _+_, _/_, _%_, _≤_, _<_}
 use native.Mathlib.Nat.{mod-eq-of-lt}
 use native.Mathlib.Omega.{arith}
-use borrow.Author.Tests.{lt-ltb, eqb-true}
+use borrow.Author.Tests.{lt-ltb, eqb-true, eq-eqb}
 use lib.Dec.{eqb, ltb, ltb→lt, eqb→eq}
 use lib.ListN.{getD, List·getD-eq-default}
 use Rattle.bits.specs.Pick.{pick, first}
@@ -16,7 +16,7 @@ use Rattle.bits.proofs.Every.{each, agree}
 use Rattle.bits.proofs.Firsts.{first-cases, first-map}
 use Rattle.bits.proofs.Rows.{little-lt, big-lt, length-bits, length-bigBits, bits-little, big-bigBits}
 use Rattle.madi_code.specs.Groups.{groupCodes, groupCode, commandCodes, commandCode, commandOf, isHalf, groupOf}
-use Rattle.madi_code.specs.Inner.{meant, placeIn}
+use Rattle.madi_code.specs.Inner.{meant, placedCommands, placeIn, commandBy}
 use Rattle.madi_code.specs.declared.Group.{Group}
 use Rattle.madi_code.specs.declared.Group.the-variants.{Data, Half, Nothing}
 
@@ -83,34 +83,39 @@ command-only v =
     first-cases (λ c. eqb (commandCode c) v) (λ c. c) 16 (λ (x : ℕ). x < 16 → commandCode x ≡ v) 0 16
     (λ i l t none h. eqb-true (commandCode (0 + i)) v t) (λ none h. absurd (omega arith))
 
--- ---- the reader's table of commands, each at the place that its code leads to
-
-abbrev pub placed : List ℕ
-placed =
-    0x000F ∷ 0x1B93 ∷ 0x3276 ∷ 0x004D ∷ 0x000F ∷ 0x000F ∷ 0x000F ∷ 0x3E44 ∷ 0x000F ∷ 0x000F ∷ 0x0E7B ∷ 0x09F9 ∷ 0x000F ∷ 0x000F ∷ 0x3110 ∷ 0x000F
-    ∷ 0x080A ∷ 0x3397 ∷ 0x1A75 ∷ 0x0848 ∷ 0x000F ∷ 0x000F ∷ 0x000F ∷ 0x1AD2 ∷ 0x000F ∷ 0x0F9C ∷ 0x000F ∷ 0x01FE ∷ 0x000F ∷ 0x000F ∷ 0x000F ∷ 0x3FF1 ∷ []
-
-pub placed-small : (i : ℕ) → i < 32 → getD placed i 0 < 2 ^ 16
-placed-small i h = ltb→lt (getD placed i 0) (2 ^ 16) (each 32 (λ k. ltb (getD placed k 0) (2 ^ 16)) tt i h)
+-- ---- the commands by their places
 
 -- what stands there is right, and every command is there, each by one computed test
-pub placed-right : (i : ℕ) → i < 32 → commandOf (getD placed i 0 / 16) ≡ getD placed i 0 % 16
-unfolding commandOf first commandCode commandCodes
-placed-right = agree 32 (λ i. commandOf (getD placed i 0 / 16)) (λ i. getD placed i 0 % 16) tt
+placed-right : (i : ℕ) → i < 32 → commandOf (getD placedCommands i 0 / 16) ≡ getD placedCommands i 0 % 16
+unfolding placedCommands commandOf first commandCode commandCodes
+placed-right = agree 32 (λ i. commandOf (getD placedCommands i 0 / 16)) (λ i. getD placedCommands i 0 % 16) tt
 
-placed-there : (c : ℕ) → c < 16 → getD placed (placeIn (commandCode c)) 0 / 16 ≡ commandCode c
-unfolding placeIn commandCode commandCodes
-placed-there = agree 16 (λ c. getD placed (placeIn (commandCode c)) 0 / 16) commandCode tt
+placed-there : (c : ℕ) → c < 16 → getD placedCommands (placeIn (commandCode c)) 0 / 16 ≡ commandCode c
+unfolding placedCommands placeIn commandCode commandCodes
+placed-there = agree 16 (λ c. getD placedCommands (placeIn (commandCode c)) 0 / 16) commandCode tt
 
--- so ten bits that do not stand there are none
-pub not-placed : (v : ℕ) → (getD placed (placeIn v) 0 / 16 ≡ v → ⊥) → commandOf v ≡ 16
+place-in-lt : (v : ℕ) → placeIn v < 32
+unfolding placeIn
+place-in-lt v = omega arith
+
+-- ten bits that do not stand there are none
+not-placed : (v : ℕ) → (getD placedCommands (placeIn v) 0 / 16 ≡ v → ⊥) → commandOf v ≡ 16
 unfolding commandOf
 not-placed v other =
     first-cases (λ c. eqb (commandCode c) v) (λ c. c) 16 (λ (x : ℕ). x ≡ 16) 0 16
     (λ i l t none. absurd (other (there (0 + i) (omega arith) (eqb-true (commandCode (0 + i)) v t)))) (λ none. refl)
   where
-    there : (c : ℕ) → c < 16 → commandCode c ≡ v → getD placed (placeIn v) 0 / 16 ≡ v
-    there c h e = ap (λ (u : ℕ). getD placed (placeIn u) 0 / 16) (sym e) ∙ placed-there c h ∙ e
+    there : (c : ℕ) → c < 16 → commandCode c ≡ v → getD placedCommands (placeIn v) 0 / 16 ≡ v
+    there c h e = ap (λ (u : ℕ). getD placedCommands (placeIn u) 0 / 16) (sym e) ∙ placed-there c h ∙ e
+
+-- so the table tells which command ten bits are
+pub commands-placed : (v : ℕ) → commandBy placedCommands v ≡ commandOf v
+unfolding commandBy
+commands-placed v = by (eqb (getD placedCommands (placeIn v) 0 / 16) v) refl
+  where
+    by : (t : Bool) → eqb (getD placedCommands (placeIn v) 0 / 16) v ≡ t → pick t (getD placedCommands (placeIn v) 0 % 16) 16 ≡ commandOf v
+    by true e = sym (placed-right (placeIn v) (place-in-lt v)) ∙ ap commandOf (eqb-true (getD placedCommands (placeIn v) 0 / 16) v e)
+    by false e = sym (not-placed v (λ q. no-yes (eqb (getD placedCommands (placeIn v) 0 / 16) v) e (eq-eqb (getD placedCommands (placeIn v) 0 / 16) v q)))
 
 -- no half is above 31
 half-above : (g : ℕ) → 32 ≤ g → isHalf g ≡ false

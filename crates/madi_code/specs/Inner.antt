@@ -1,7 +1,7 @@
 -- The tables that a caller lends, and what functions give that go by them. Assumes nothing.
 use Prim.Native.Nat.{ℕ, _+_, _*_, _/_, _%_, _^_, _<_}
 use mathlib.Core.Path.{_≡_}
-use mathlib.Core.List.{List}
+use mathlib.Core.List.{List, [], _∷_}
 use lib.Dec.{eqb, ltb}
 use lib.ListN.{getD}
 use Rattle.bits.specs.Pick.{pick, first}
@@ -73,6 +73,19 @@ wordByTable t v = pick (ltb (eightSum t v) 128) (eightFours t v) (2 ^ 32)
 unfoldable pub channelBy : List ℕ → ℕ → ChannelBits
 channelBy t v = pick (ltb (wordByTable t v) (2 ^ 32)) (Word (wordByTable t v)) (channelOf (bigBits 40 v))
 
--- where in a table of 32 the command stands that ten bits may be
+-- ---- commands received
+
+-- a table of 32 that has a command where its code leads to, its code times 16 and its number in one; at the places that
+-- no code leads to it has command 15, which is right there too
+unfoldable pub placedCommands : List ℕ
+placedCommands =
+    0x000F ∷ 0x1B93 ∷ 0x3276 ∷ 0x004D ∷ 0x000F ∷ 0x000F ∷ 0x000F ∷ 0x3E44 ∷ 0x000F ∷ 0x000F ∷ 0x0E7B ∷ 0x09F9 ∷ 0x000F ∷ 0x000F ∷ 0x3110 ∷ 0x000F
+    ∷ 0x080A ∷ 0x3397 ∷ 0x1A75 ∷ 0x0848 ∷ 0x000F ∷ 0x000F ∷ 0x000F ∷ 0x1AD2 ∷ 0x000F ∷ 0x0F9C ∷ 0x000F ∷ 0x01FE ∷ 0x000F ∷ 0x000F ∷ 0x000F ∷ 0x3FF1 ∷ []
+
+-- where ten bits lead to
 unfoldable pub placeIn : ℕ → ℕ
 placeIn v = v % 2 ^ 10 * 7 / 8 % 32
+
+-- the command that ten bits are by such a table; 16 where they are none
+unfoldable pub commandBy : List ℕ → ℕ → ℕ
+commandBy t v = pick (eqb (getD t (placeIn v) 0 / 16) v) (getD t (placeIn v) 0 % 16) 16

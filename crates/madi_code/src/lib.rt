@@ -7,7 +7,7 @@ ghost use lib.ListN.{take, getD};
 ghost use Rattle.madi_code.specs.Frame.{counted, synced};
 ghost use Rattle.madi_code.specs.Groups.{groupCodes, commandCodes, commandOf, groupOf};
 ghost use Rattle.madi_code.specs.Channels.{channelRow, channelOf};
-ghost use Rattle.madi_code.specs.Inner.{fourGroups, eightGroups, FoursOf, wordByTable, channelBy, groupTable, meaningTable, placeIn};
+ghost use Rattle.madi_code.specs.Inner.{fourGroups, eightGroups, FoursOf, wordByTable, channelBy, groupTable, meaningTable, placedCommands, placeIn, commandBy};
 
 mod tables;
 
@@ -157,22 +157,43 @@ pub fn decode_group(g: u8) -> Group
     Group::Nothing
 }
 
-// The place in PLACED of the command that ten bits may be.
+// The table of commands by their places, for an operation that lays it out once and lends it to its loops.
+pub fn command_places() -> [u16; 32]
+    ensures { λ r. ⌜ r ≡ placedCommands ⌝ }
+{
+    PLACED
+}
+
+// The place in such a table of the command that ten bits may be.
 fn place_of(v: u64) -> usize
     ensures { λ r. ⌜ (r ≡ placeIn v) × (r < 32) ⌝ }
 {
     (v % 1024 * 7 / 8 % 32) as usize
 }
 
-// The command that ten bits are, or 16: one entry is looked at, which has the command's code in it.
-fn listed_command(v: u64) -> u32
-    ensures { λ r. ⌜ r ≡ commandOf v ⌝ }
+fn wide_entry(x: u16) -> u64
+    ensures { λ r. ⌜ r ≡ x ⌝ }
 {
-    let e = PLACED[place_of(v)] as u64;
+    x as u64
+}
+
+// The command that ten bits are by a table of places, or 16: one entry is looked at, which has the command's code in it.
+pub fn command_by(table: &[u16; 32], v: u64) -> u32
+    ensures { λ r. ⌜ r ≡ commandBy (now (table .entry)) v ⌝ }
+{
+    let e = wide_entry(table[place_of(v)]);
     if e / 16 == v {
         return (e % 16) as u32;
     }
     16
+}
+
+// The same of ten bits alone.
+fn listed_command(v: u64) -> u32
+    ensures { λ r. ⌜ r ≡ commandOf v ⌝ }
+{
+    let table = command_places();
+    command_by(&table, v)
 }
 
 // The command that ten bits are, or 16: the default sync at once, the others where their first half is one.

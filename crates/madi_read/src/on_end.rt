@@ -76,12 +76,16 @@ pub(crate) fn commands_on(
 {
     let mut t = s;
     if n == channels {
+        let places = madi_code::command_places();
         while t < 255 {
             let at = 40 * n + 10 * t;
             if bits < at + 10 {
                 return t;
             }
-            let c = madi_code::command_of(line_bits::bits_at(line, level, at as usize, 10));
+            let c = madi_code::command_by(
+                &places,
+                line_bits::bits_at(line, level, at as usize, 10),
+            );
             if 15 < c {
                 return t;
             }

@@ -1,39 +1,23 @@
--- `madi_code::listed_command` meets its contract: what stands at a place is right, and a command stands nowhere else.
--- Assumes nothing.
-use mathlib.Core.Path.{sym, ap, _∙_}
-use Prim.Native.Nat.{ℕ, _/_}
-use native.Mathlib.Omega.{arith}
+-- `madi_code::listed_command` meets its contract. Assumes nothing.
+use mathlib.Core.Path.{ap, _∙_}
+use mathlib.Core.List.{List}
+use Prim.Native.Nat.{ℕ}
 use borrow.Author.Needs.{needs}
-use lib.ListN.{getD}
-use Rattle.madi_code.specs.Groups.{commandOf}
-use Rattle.madi_code.proofs.GroupLaws.{placed, placed-small, placed-right, not-placed}
+use Rattle.madi_code.specs.Inner.{commandBy}
+use Rattle.madi_code.proofs.GroupLaws.{commands-placed}
 use Rattle.madi_code.proofs.listed_command.Statement.{statement}
 use Rattle.madi_code.proofs.listed_command.Tie as tie
 
-place-of-requires : tie.Need-place-of-requires
-place-of-requires c κs = search needs
+command-places-requires : tie.Need-command-places-requires
+command-places-requires c κs = search needs
 
-mul-e : tie.Need-mul-e
-mul-e c = search needs
-
-array-read-e : tie.Need-array-read-e
-array-read-e c = search needs
-
-cast-e : tie.Need-cast-e
-cast-e c = omega (arith, placed-small (c .place-of .result) (c .place-of .ensures .1))
-
-cast-result : tie.Need-cast-result
-cast-result c = search needs
+command-by-requires : tie.Need-command-by-requires
+command-by-requires c κs = search needs
 
 returns : tie.Need-returns
 returns c =
-    let p = c .before .place-of in
-    sym (placed-right (p .result) (p .ensures .1)) ∙ ap commandOf (c .if1 .taken)
-
-returns-2 : tie.Need-returns-2
-returns-2 c =
-    let p = c .before .place-of in
-    sym (not-placed (c .before .before .args .v) (λ e. c .if1 .left (ap (λ (i : ℕ). getD placed i 0 / 16) (p .ensures .0) ∙ e)))
+    let v = c .before .before .before .args .v in
+    c .command-by .ensures ∙ ap (λ (t : List ℕ). commandBy t v) (c .before .before .command-places .ensures) ∙ commands-placed v
 
 pub listed-command-spec : {M : Type 1} → statement M
-listed-command-spec = tie.close (tie.spec place-of-requires mul-e array-read-e cast-e cast-result returns returns-2)
+listed-command-spec = tie.close (tie.spec command-places-requires command-by-requires returns)

@@ -9,6 +9,8 @@ use Rattle.bits.specs.Row.{Row}
 use Rattle.bits.specs.Window.{window}
 use Rattle.madi_code.specs.Frame.{boundary}
 use Rattle.madi_code.specs.Groups.{commandOf}
+use Rattle.madi_code.specs.Inner.{commandBy}
+use Rattle.madi_code.proofs.GroupLaws.{commands-placed}
 use Rattle.madi_read.specs.Reader.{carried, readOn}
 use Rattle.madi_read.specs.Inner.{sofar, Listed, Reached}
 use Rattle.madi_read.proofs.Carrying.{length-carried, window-carried}
@@ -18,16 +20,19 @@ use Rattle.madi_read.proofs.on_end.commands_on.Statement.{statement}
 use Rattle.madi_read.proofs.on_end.commands_on.Tie as tie
 
 abbrev Inv-loop : tie.InvT-loop
-Inv-loop line level channels bits n s codes₀ t₀ codes t =
+Inv-loop line level channels bits n s codes₀ t₀ places codes t =
     (s ≤ t) × (t ≤ 255) × (boundary n t ≤ bits) × Listed t codes
     × ((active : ℕ) (words : List ℕ)
     → Reached (carried level bits line) channels (sofar n active (take s codes₀) words) (sofar n active (take t codes) words))
 
 abbrev μ-loop : tie.MeasureT-loop
-μ-loop line level channels bits n s codes₀ t₀ codes t = 255 - t
+μ-loop line level channels bits n s codes₀ t₀ places codes t = 255 - t
+
+command-places-requires : tie.Need-command-places-requires Inv-loop μ-loop
+command-places-requires c κs = search needs
 
 loop-holds : tie.Need-loop-holds Inv-loop μ-loop
-loop-holds c = (omega arith, omega arith, omega arith, c .before .before .before .pre .7, λ active words. refl)
+loop-holds c = (omega arith, omega arith, omega arith, c .before .before .before .before .pre .7, λ active words. refl)
 
 mul-at : tie.Need-mul-at Inv-loop μ-loop
 mul-at c = search needs
@@ -53,14 +58,14 @@ cast-bits-at c = search needs
 bits-at-requires : tie.Need-bits-at-requires Inv-loop μ-loop
 bits-at-requires c κs = search needs
 
-command-of-requires : tie.Need-command-of-requires Inv-loop μ-loop
-command-of-requires c κs = search needs
+command-by-requires : tie.Need-command-by-requires Inv-loop μ-loop
+command-by-requires c κs = search needs
 
 same-length-2 : tie.Need-same-length-2 Inv-loop μ-loop
 same-length-2 c = search needs
 
 returns-2 : tie.Need-returns-2 Inv-loop μ-loop
-returns-2 c = c .before .before .before .before .before .loop .inv
+returns-2 c = c .before .before .before .before .before .before .loop .inv
 
 cast-codes : tie.Need-cast-codes Inv-loop μ-loop
 cast-codes c = search needs
@@ -69,7 +74,7 @@ cast-codes-2 : tie.Need-cast-codes-2 Inv-loop μ-loop
 cast-codes-2 c = search needs
 
 slice-write-codes : tie.Need-slice-write-codes Inv-loop μ-loop
-slice-write-codes c = omega (arith, c .before .before .before .before .before .loop .inv .3 .0)
+slice-write-codes c = omega (arith, c .before .before .before .before .before .before .loop .inv .3 .0)
 
 add-t : tie.Need-add-t Inv-loop μ-loop
 add-t c = search needs
@@ -79,18 +84,19 @@ loop-less c = search needs
 
 loop-again : tie.Need-loop-again Inv-loop μ-loop
 loop-again c =
-    let l = c .before .before .before .before .before in
-    let a = l .before .before .before .before .args in
+    let l = c .before .before .before .before .before .before in
+    let a = l .before .before .before .before .before .args in
     let t : ℕ = l .loop .t in
     let codes : List ℕ = l .loop .codes in
     let list : Listed t codes = l .loop .inv .3 in
-    let k : ℕ = c .before .command-of .result in
+    let k : ℕ = c .before .command-by .result in
     let r : Row = carried (a .level) (a .bits) (a .line .now) in
     let n : length (take t codes) ≡ t = length-listed t codes list (omega arith) in
     let known : k < 16 = omega (arith, c .if3 .left) in
     let e : commandOf (window r (boundary (a .n) (length (take t codes))) 10) ≡ k =
     ap (λ (j : ℕ). commandOf (window r (boundary (a .n) j) 10)) n
-    ∙ sym (c .before .command-of .ensures ∙ ap commandOf (c .before .before .bits-at .ensures
+    ∙ sym (c .before .command-by .ensures ∙ ap (λ (p : List ℕ). commandBy p (c .before .before .bits-at .result)) (l .before .command-places .ensures)
+    ∙ commands-placed (c .before .before .bits-at .result) ∙ ap commandOf (c .before .before .bits-at .ensures
     ∙ window-carried (a .level) (a .bits) (a .line .now) (omega arith) (boundary (a .n) t) 10 (omega arith))) in (
       omega arith,
       omega arith,
@@ -118,6 +124,7 @@ commands-on-spec =
     (tie.spec
     Inv-loop
     μ-loop
+    command-places-requires
     loop-holds
     mul-at
     mul-at-2
@@ -127,7 +134,7 @@ commands-on-spec =
     returns
     cast-bits-at
     bits-at-requires
-    command-of-requires
+    command-by-requires
     same-length-2
     returns-2
     cast-codes
