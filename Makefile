@@ -12,6 +12,8 @@
 # make install     puts archive, header, pkg-config file, both programs and their manual pages under DESTDIR and PREFIX
 # make uninstall   takes them away
 # make bench       measures against C by hand and writes docs/FIGURES.md
+# make counts      after make bench: the instructions of a call, counted under the kit's emulator
+# make model       after make bench: the loops of the writers and of the AES3 reader by models of two processors
 # make expected    makes the files that tests are held to anew, from the second program
 # make mutants     tries the comparing program itself on spoilt copies of the second program
 # make tried       runs every program on the interpreter and compiled three ways
@@ -21,7 +23,7 @@
 .NOTPARALLEL:
 .PHONY: report test read alone proofs edits boundary lib program install uninstall bench expected mutants promises clean header second \
 	held hand listed compare flips card installed
-.PHONY: tried shared failing carry carry_alone sound replay
+.PHONY: tried shared failing carry carry_alone sound replay counts model
 
 PREFIX = /usr/local
 DESTDIR =
@@ -47,6 +49,7 @@ COMPARE = tests/compare/compare.c tests/compare/edges.c tests/compare/compare_sm
 	tests/compare/compare_talkback.c tests/compare/compare_patch.c tests/compare/compare_leases.c tests/compare/compare_levels.c tests/compare/compare_replay.c
 HAND = bench/hand_aes3.c bench/hand_madi.c bench/hand_hd.c bench/hand_control.c bench/hand_talkback.c bench/hand_patch.c \
 	bench/hand_levels.c
+FORMED = bench/formed_aes3.c bench/formed_madi.c bench/formed_hd.c
 CARRY = examples/carry.c examples/carry_back.c
 
 # ---- the library and the programs
@@ -178,19 +181,23 @@ held:
 	for f in $$(cd build/expected && find . -type f); do cmp build/expected/$$f $$f || exit 1; done
 
 # The C by hand that the library is measured against, held to the second program: each function that bench.c calls
-# takes the library's place in the comparing program, in a whole run; then the other search, in the group that calls it;
-# the entries that are not written by hand are the second program's own.
+# takes the library's place in the comparing program, in a whole run; then the other search and the functions with the
+# named forms, in the groups that call them; the entries that are not written by hand are the second program's own.
 hand: build/stand_in.o
-	for f in $$(grep -o 'hand_[a-z0-9_]*(' bench/hand.h | grep -v '^hand_init_' | sort -u); do \
-	    grep -q " $${f%(}$$" bench/in_place.h || { echo "hand: $${f%(} is not held to the second program"; exit 1; }; done
+	for f in $$(grep -o 'hand_[a-z0-9_]*(' bench/hand.h | tr -d '(' | grep -v '^hand_init_' | sort -u) \
+	    $$(sed -n 's/^extern .*) \(formed_[a-z0-9_]*\);$$/\1/p' bench/hand.h); do \
+	    grep -q " $$f$$" bench/in_place.h || { echo "hand: $$f is not held to the second program"; exit 1; }; done
 	rm -rf build/hand
 	mkdir -p build/hand
-	for f in bench/hand_start.c $(HAND) $(SPOIL) $(SECOND); do \
+	for f in bench/hand_start.c $(HAND) $(FORMED) $(SPOIL) $(SECOND); do \
 	    $(CC) $(CFLAGS) -O3 $(INCLUDES) -c -o build/hand/$${f##*/}.o $$f || exit 1; done
 	$(CC) $(CFLAGS) $(INCLUDES) -Ibench '-DIN_PLACE="in_place.h"' -o build/compare_hand $(COMPARE) build/hand/*.o build/stand_in.o
 	build/compare_hand >build/compare_hand.txt || { cat build/compare_hand.txt; exit 1; }
 	$(CC) $(CFLAGS) $(INCLUDES) -Ibench '-DIN_PLACE="in_place.h"' -DBY_CANDIDATE -o build/compare_hunt $(COMPARE) build/hand/*.o build/stand_in.o
 	build/compare_hunt 20000 0 hunt >build/compare_hunt.txt || { cat build/compare_hunt.txt; exit 1; }
+	$(CC) $(CFLAGS) $(INCLUDES) -Ibench '-DIN_PLACE="in_place.h"' -DBY_FORMS -o build/compare_forms $(COMPARE) build/hand/*.o build/stand_in.o
+	for g in aes3 length madi commands hd; do \
+	    build/compare_forms 20000 0 $$g >build/compare_forms.txt || { cat build/compare_forms.txt; exit 1; }; done
 	tests/compared build/compare_hand.txt
 	$(CC) $(CFLAGS) -O3 $(INCLUDES) -o build/report_native bench/report_hand.c $(HAND)
 	build/report_native <examples/desk.rec | cmp - examples/desk.expected
@@ -255,7 +262,7 @@ expected:
 
 bench: $(ARCHIVE) program
 	@mkdir -p build
-	bench/link build "$(X86) cc $(CFLAGS) -O3 $(INCLUDES)" $(ARCHIVE) bench/bench.c $(HAND)
+	bench/link build "$(X86) cc $(CFLAGS) -O3 $(INCLUDES)" $(ARCHIVE) bench/bench.c $(HAND) $(FORMED)
 	$(X86) cc $(CFLAGS) -O3 $(INCLUDES) -o build/report_hand bench/report_hand.c $(HAND)
 	$(CC) $(CFLAGS) $(INCLUDES) -o build/mixed_records tests/second/mixed_records.c tests/second/records.c $(SPOIL) $(SECOND)
 	build/mixed_records 20000 2 >build/many.rec
@@ -264,6 +271,18 @@ bench: $(ARCHIVE) program
 	bench/run build >build/figures.md
 	cp build/figures.md docs/FIGURES.md
 	cat docs/FIGURES.md
+
+counts:
+	bench/instructions build/bench_at_0 docs/FIGURES.md
+
+model: $(ARCHIVE)
+	@echo "| function | instructions | Skylake | Zen 3 |"
+	@echo "|---|---|---|---|"
+	@bench/model build $(ARCHIVE) lampcoil_aes3_write lampcoil_aes3_read lampcoil_madi_write
+	@bench/model build build/bench_objects/hand_aes3.c.o hand_aes3_write hand_aes3_read
+	@bench/model build build/bench_objects/formed_aes3.c.o formed_aes3_write formed_aes3_read
+	@bench/model build build/bench_objects/hand_madi.c.o hand_madi_write
+	@bench/model build build/bench_objects/formed_madi.c.o formed_madi_write
 
 # ---- installing
 

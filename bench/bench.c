@@ -55,26 +55,31 @@ enum { MOST_ANSWER = 128, MOST_FILLED = 4096 };
     PROGRAM(library_##name, type, lampcoil_##entry arguments)                                                                    \
     PROGRAM(by_hand_##name, type, hand_##entry arguments)
 
-BOTH(aes3_write, lampcoil_verdict, aes3_write, (samples, 384, side, 192, 0, back_line, 3072))
-BOTH(aes3_write_bound, lampcoil_verdict, aes3_write, (bound_samples, 384, bound_side, 192, 0, back_line, 3072))
-BOTH(aes3_read, lampcoil_aes3_read_answer, aes3_read, (line, 3072, back_samples, 384, back_side, 192))
-BOTH(aes3_read_odd, lampcoil_aes3_read_answer, aes3_read, (odd_line, 3072, back_samples, 384, back_side, 192))
+/* With them the C that takes the forms that the library is bound to. */
+#define ALL(name, type, entry, arguments)                                                                                        \
+    BOTH(name, type, entry, arguments)                                                                                           \
+    PROGRAM(by_forms_##name, type, formed_##entry arguments)
+
+ALL(aes3_write, lampcoil_verdict, aes3_write, (samples, 384, side, 192, 0, back_line, 3072))
+ALL(aes3_write_bound, lampcoil_verdict, aes3_write, (bound_samples, 384, bound_side, 192, 0, back_line, 3072))
+ALL(aes3_read, lampcoil_aes3_read_answer, aes3_read, (line, 3072, back_samples, 384, back_side, 192))
+ALL(aes3_read_odd, lampcoil_aes3_read_answer, aes3_read, (odd_line, 3072, back_samples, 384, back_side, 192))
 BOTH(find, lampcoil_aes3_start, aes3_find, (hunted, HUNTED))
 BOTH(join, lampcoil_verdict, talkback_join, (plain, 384, voice, 128, talk_side, LAMPCOIL_SIDE_OCTETS, back_samples, 384))
 BOTH(separate, lampcoil_verdict, talkback_separate,
      (samples, 384, talk_side, LAMPCOIL_SIDE_OCTETS, back_plain, 384, back_voice, 128))
-BOTH(madi_write, lampcoil_verdict, madi_write, (64, words, 64, syncs, SYNCS, 0, back_madi, sizeof back_madi))
-BOTH(madi_read, lampcoil_madi_read_answer, madi_read,
-     (64, 0, LAMPCOIL_MADI_BITS(64, SYNCS), madi, sizeof madi, back_words, 64, back_commands, 255))
-BOTH(madi_write_full, lampcoil_verdict, madi_write, (64, words, 64, commands, 255, 0, back_full, sizeof back_full))
-BOTH(madi_read_full, lampcoil_madi_read_answer, madi_read,
-     (64, 0, LAMPCOIL_MADI_BITS(64, 255), full, sizeof full, back_words, 64, back_commands, 255))
+ALL(madi_write, lampcoil_verdict, madi_write, (64, words, 64, syncs, SYNCS, 0, back_madi, sizeof back_madi))
+ALL(madi_read, lampcoil_madi_read_answer, madi_read,
+    (64, 0, LAMPCOIL_MADI_BITS(64, SYNCS), madi, sizeof madi, back_words, 64, back_commands, 255))
+ALL(madi_write_full, lampcoil_verdict, madi_write, (64, words, 64, commands, 255, 0, back_full, sizeof back_full))
+ALL(madi_read_full, lampcoil_madi_read_answer, madi_read,
+    (64, 0, LAMPCOIL_MADI_BITS(64, 255), full, sizeof full, back_words, 64, back_commands, 255))
 BOTH(patch, lampcoil_verdict, madi_patch,
      (64, 64, leases, 64, rows, 64, words, 64, back_words, 64, verdicts, 64))
-BOTH(hd_write, lampcoil_verdict, hd_write, (1, 17, 1234, 0, 1, 0, bodies, 4, back_packet, 31))
-BOTH(hd_read, lampcoil_hd_read_answer, hd_read, (packet, 31, back_bodies, 4))
-BOTH(repair, lampcoil_hd_repair_answer, hd_repair, (packet, 31, back_packet, 31))
-BOTH(repair_damaged, lampcoil_hd_repair_answer, hd_repair, (damaged, 31, back_packet, 31))
+ALL(hd_write, lampcoil_verdict, hd_write, (1, 17, 1234, 0, 1, 0, bodies, 4, back_packet, 31))
+ALL(hd_read, lampcoil_hd_read_answer, hd_read, (packet, 31, back_bodies, 4))
+ALL(repair, lampcoil_hd_repair_answer, hd_repair, (packet, 31, back_packet, 31))
+ALL(repair_damaged, lampcoil_hd_repair_answer, hd_repair, (damaged, 31, back_packet, 31))
 
 /* An edit changes its block in place, so each call starts from the same one; the copy of it is in both times. */
 static uint8_t status[24], back_status[24];
@@ -266,14 +271,19 @@ static void measure(const operation *o)
 }
 
 #define FILLS(buffer) {buffer, sizeof buffer}
+#define FORMS "the same; C with the named forms"
 
 static const operation all[] = {
     {"AES3 write, a block with declared word lengths", &library_aes3_write_bound, &by_hand_aes3_write_bound, nothing, 3072,
      {FILLS(back_line)}},
+    {FORMS, &library_aes3_write_bound, &by_forms_aes3_write_bound, nothing, 3072, {FILLS(back_line)}},
     {"AES3 write, a block with none declared", &library_aes3_write, &by_hand_aes3_write, nothing, 3072, {FILLS(back_line)}},
+    {FORMS, &library_aes3_write, &by_forms_aes3_write, nothing, 3072, {FILLS(back_line)}},
     {"AES3 read, a block", &library_aes3_read, &by_hand_aes3_read, nothing, 3072, {FILLS(back_samples), FILLS(back_side)}},
+    {FORMS, &library_aes3_read, &by_forms_aes3_read, nothing, 3072, {FILLS(back_samples), FILLS(back_side)}},
     {"AES3 read, a fault in every subframe", &library_aes3_read_odd, &by_hand_aes3_read_odd, nothing, 3072,
      {FILLS(back_samples), FILLS(back_side)}},
+    {FORMS, &library_aes3_read_odd, &by_forms_aes3_read_odd, nothing, 3072, {FILLS(back_samples), FILLS(back_side)}},
     {"level sheet, a block added", &library_level_add, &by_hand_level_add, nothing, 1536, {FILLS(back_sheet)}},
     {"hunt, 8,192 octets at random, no start; C 64 symbols at once", &library_find, &by_hand_find, hunt_noise, HUNTED, {{0}}},
     {"the same; C candidate by candidate", &library_find, &by_hand_by_candidate, hunt_noise, HUNTED, {{0}}},
@@ -287,24 +297,50 @@ static const operation all[] = {
     {"talkback, separating a block", &library_separate, &by_hand_separate, nothing, sizeof samples,
      {FILLS(back_plain), FILLS(back_voice)}},
     {"MADI write, 64 channels", &library_madi_write, &by_hand_madi_write, nothing, sizeof madi, {FILLS(back_madi)}},
+    {FORMS, &library_madi_write, &by_forms_madi_write, nothing, sizeof madi, {FILLS(back_madi)}},
     {"MADI read, 64 channels", &library_madi_read, &by_hand_madi_read, nothing, sizeof madi, {FILLS(back_words), FILLS(back_commands)}},
+    {FORMS, &library_madi_read, &by_forms_madi_read, nothing, sizeof madi, {FILLS(back_words), FILLS(back_commands)}},
     {"MADI write, 64 channels and 255 commands", &library_madi_write_full, &by_hand_madi_write_full, nothing, sizeof full, {FILLS(back_full)}},
+    {FORMS, &library_madi_write_full, &by_forms_madi_write_full, nothing, sizeof full, {FILLS(back_full)}},
     {"MADI read, 64 channels and 255 commands", &library_madi_read_full, &by_hand_madi_read_full, nothing, sizeof full,
      {FILLS(back_words), FILLS(back_commands)}},
+    {FORMS, &library_madi_read_full, &by_forms_madi_read_full, nothing, sizeof full, {FILLS(back_words), FILLS(back_commands)}},
     {"patch, 64 slots of four tenants", &library_patch, &by_hand_patch, nothing, 256, {FILLS(back_words), FILLS(verdicts)}},
     {"HD write, a packet", &library_hd_write, &by_hand_hd_write, nothing, 62, {FILLS(back_packet)}},
+    {FORMS, &library_hd_write, &by_forms_hd_write, nothing, 62, {FILLS(back_packet)}},
     {"HD read, a packet", &library_hd_read, &by_hand_hd_read, nothing, 62, {FILLS(back_bodies)}},
+    {FORMS, &library_hd_read, &by_forms_hd_read, nothing, 62, {FILLS(back_bodies)}},
     {"HD repair, nothing damaged", &library_repair, &by_hand_repair, nothing, 62, {FILLS(back_packet)}},
+    {FORMS, &library_repair, &by_forms_repair, nothing, 62, {FILLS(back_packet)}},
     {"HD repair, one place in every lane", &library_repair_damaged, &by_hand_repair_damaged, nothing, 62, {FILLS(back_packet)}},
+    {FORMS, &library_repair_damaged, &by_forms_repair_damaged, nothing, 62, {FILLS(back_packet)}},
 };
 
-int main(void)
+/* Calls one of the two so many times and no more, so that the instructions of a call can be counted. */
+static int call_only(size_t row, const char *which, int times)
+{
+    if (row >= sizeof all / sizeof all[0])
+        return 2;
+    all[row].prepare();
+    const program *p = which[0] == 'l' ? all[row].library : all[row].hand;
+    for (int k = 0; k < times; k++)
+        sink = sink + p->timed();
+    return 0;
+}
+
+/* With no arguments the table; with a row's number, `library` or `hand` and a count, so many calls. */
+int main(int argc, char **argv)
 {
     hand_init_aes3();
     hand_init_madi();
     hand_init_hd();
     hand_init_levels();
+    formed_init_aes3();
+    formed_init_madi();
+    formed_init_hd();
     prepare_carriers();
+    if (argc == 4)
+        return call_only((size_t)strtoul(argv[1], NULL, 10), argv[2], atoi(argv[3]));
     printf("| operation | library, ns | C by hand, ns | ratio | memcpy of the carrier, ns | ratio |\n|---|---|---|---|---|---|\n");
     for (size_t k = 0; k < sizeof all / sizeof all[0]; k++) {
         all[k].prepare();

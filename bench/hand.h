@@ -7,6 +7,25 @@
 #include "lampcoil.h"
 #include <string.h>
 
+/* Where FORMED is defined, before this is read, the files for AES3, MADI and HD take the forms that the library is bound
+   to in place of tables that are wider: P and b8 by the count of ones, 256 biphase codings, 16 groups and their inverse.
+   What they define then has the name formed_... */
+#ifdef FORMED
+#define hand_init_aes3 formed_init_aes3
+#define hand_init_madi formed_init_madi
+#define hand_init_hd formed_init_hd
+#define hand_aes3_write formed_aes3_write
+#define hand_aes3_read formed_aes3_read
+#define hand_aes3_find formed_aes3_find
+#define hand_aes3_find_by_candidate formed_aes3_find_by_candidate
+#define hand_status_edit formed_status_edit
+#define hand_madi_write formed_madi_write
+#define hand_madi_read formed_madi_read
+#define hand_hd_write formed_hd_write
+#define hand_hd_read formed_hd_read
+#define hand_hd_repair formed_hd_repair
+#endif
+
 /* Fills the tables of each file; once, before anything else. */
 void hand_init_aes3(void);
 void hand_init_madi(void);
@@ -40,6 +59,17 @@ lampcoil_verdict hand_talkback_separate(const int32_t *samples, size_t samples_l
 lampcoil_verdict hand_level_add(int64_t *sheet, size_t sheet_len, const int32_t *samples, size_t samples_len, const uint8_t *side,
                                 size_t side_len);
 
+#ifndef FORMED
+extern __typeof__(hand_init_aes3) formed_init_aes3, formed_init_madi, formed_init_hd;
+extern __typeof__(hand_aes3_write) formed_aes3_write;
+extern __typeof__(hand_aes3_read) formed_aes3_read;
+extern __typeof__(hand_madi_write) formed_madi_write;
+extern __typeof__(hand_madi_read) formed_madi_read;
+extern __typeof__(hand_hd_write) formed_hd_write;
+extern __typeof__(hand_hd_read) formed_hd_read;
+extern __typeof__(hand_hd_repair) formed_hd_repair;
+#endif
+
 /* Eight octets, the first highest, on a machine that has the lowest first. */
 static inline uint64_t load_be64(const uint8_t *p)
 {
@@ -58,10 +88,14 @@ static inline void store_be64(uint8_t *p, uint64_t x)
 static inline uint32_t odd(uint32_t body)
 {
     body &= 0xFFFFFFF0u;
+#ifdef FORMED
+    return (uint32_t)__builtin_parity(body);
+#else
     body ^= body >> 16;
     body ^= body >> 8;
     body ^= body >> 4;
     return 0x6996u >> (body & 15) & 1;
+#endif
 }
 
 #endif

@@ -2,21 +2,35 @@
    odd one is told by its last symbol, and turns the mask over for those after it. */
 #include "hand.h"
 
+#ifdef FORMED
+static uint16_t codings[256]; /* 16 symbols of eight bits, after level 0 */
+#else
 static uint32_t fourteen[16384]; /* 28 symbols of 14 bits, after level 0 */
+#endif
 static uint32_t nibbles[256];    /* bit i of an octet at weight 16^i */
 static uint8_t crcc_step[256];   /* the CRCC's register over an octet, in byte 23's order */
 
+/* The biphase symbols of the low `count` bits, the lowest first, after level 0. */
+static uint32_t symbols_of(uint32_t bits, int count)
+{
+    uint32_t out = 0, level = 0;
+    for (int k = 0; k < count; k++) {
+        uint32_t one = !level, two = one ^ (bits >> k & 1);
+        out = out << 2 | one << 1 | two;
+        level = two;
+    }
+    return out;
+}
+
 void hand_init_aes3(void)
 {
-    for (uint32_t x = 0; x < 16384; x++) {
-        uint32_t out = 0, level = 0;
-        for (int k = 0; k < 14; k++) {
-            uint32_t one = !level, two = one ^ (x >> k & 1);
-            out = out << 2 | one << 1 | two;
-            level = two;
-        }
-        fourteen[x] = out;
-    }
+#ifdef FORMED
+    for (uint32_t x = 0; x < 256; x++)
+        codings[x] = (uint16_t)symbols_of(x, 8);
+#else
+    for (uint32_t x = 0; x < 16384; x++)
+        fourteen[x] = symbols_of(x, 14);
+#endif
     for (uint32_t x = 0; x < 256; x++) {
         nibbles[x] = 0;
         for (int k = 0; k < 8; k++)
@@ -126,13 +140,27 @@ static lampcoil_verdict judge(const int32_t *samples, const uint8_t *side)
     return verdict(0, 0);
 }
 
-/* The 64 symbols of a subframe of 27 bits after level 0. The last slot makes parity even: its second symbol is 0. */
+/* The 64 symbols of a subframe of 27 bits after level 0. */
+#ifdef FORMED
+/* Three codings side by side and four slots of a fourth; the last symbols of the three tell which of them to invert. */
+static inline uint64_t subframe(uint32_t d, uint64_t preamble)
+{
+    static const uint64_t inverting[8] = {0,            0xFF,         0xFFFFFF,     0xFFFF00,
+                                          0xFFFFFFFFFF, 0xFFFFFFFF00, 0xFFFF000000, 0xFFFF0000FF};
+    uint32_t last = d >> 24 | (uint32_t)__builtin_parity(d) << 3;
+    uint64_t u = (uint64_t)codings[d & 255] << 32 | (uint64_t)codings[d >> 8 & 255] << 16 | codings[d >> 16 & 255];
+    uint64_t v = inverting[(u & 0x100010001u) * 0x80010002u >> 31 & 7];
+    return preamble << 56 | ((u << 8 | codings[last] >> 8) ^ v);
+}
+#else
+/* The last slot makes parity even: its second symbol is 0. */
 static inline uint64_t subframe(uint32_t d, uint64_t preamble)
 {
     uint32_t a = fourteen[d & 16383];
     uint32_t b = (fourteen[d >> 14] ^ (-(a & 1) & 0xFFFFFFFu)) >> 2;
     return preamble << 56 | (uint64_t)a << 28 | (uint64_t)b << 2 | (uint64_t)(~b & 1) << 1;
 }
+#endif
 
 lampcoil_verdict hand_aes3_write(const int32_t *samples, size_t samples_len, const uint8_t *side, size_t side_len, uint32_t level,
                                  uint8_t *line, size_t line_len)
@@ -183,6 +211,18 @@ static lampcoil_aes3_read_answer broken(uint64_t x, uint64_t preamble, uint32_t 
     return r;
 }
 
+/* 1 for a subframe with odd ones: it leaves level 1. */
+static inline uint32_t fault_of(uint32_t bits, uint64_t symbols)
+{
+#ifdef FORMED
+    (void)symbols;
+    return (uint32_t)__builtin_parity(bits);
+#else
+    (void)bits;
+    return (uint32_t)(symbols & 1);
+#endif
+}
+
 lampcoil_aes3_read_answer hand_aes3_read(const uint8_t *line, size_t line_len, int32_t *samples, size_t samples_len, uint8_t *side,
                                          size_t side_len)
 {
@@ -200,7 +240,7 @@ lampcoil_aes3_read_answer hand_aes3_read(const uint8_t *line, size_t line_len, i
             uint64_t x = load_be64(line + 128 * j + 8 * i) ^ mask, change = x ^ x >> 1;
             if (((x >> 56 ^ preamble) | (~change & FIRSTS)) != 0)
                 return broken(x, preamble, 16 * j + i);
-            uint32_t d = bits_of(change), fault = x & 1;
+            uint32_t d = bits_of(change), fault = fault_of(d, x);
             kept[16 * j + i] = (int32_t)(d << 8) >> 8;
             tail[i & 1] |= ((d >> 24 & 7) | fault | fault << 3) << 4 * (i >> 1);
             mask ^= 0 - (x & 1);

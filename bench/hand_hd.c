@@ -10,7 +10,7 @@
 static const uint16_t did_of_group[4] = {0x2E7, 0x1E6, 0x1E5, 0x2E4};
 
 static uint64_t copies[24];      /* octet n of copies[k] is 1 if data place k counts in the coefficient of x^n */
-static uint16_t with_parity[256];
+static uint16_t with_parity[256]; /* an octet with b8 and b9 */
 static uint8_t place_of[64];     /* the one place of a syndrome; 30 for none, 31 for syndrome 0 */
 
 void hand_init_hd(void)
@@ -33,6 +33,16 @@ void hand_init_hd(void)
         uint32_t y = (x ^ x >> 4) & 15;
         with_parity[x] = (uint16_t)(x | (0x6996u >> y & 1 ? 0x100u : 0x200u));
     }
+}
+
+/* An octet with b8 and b9. */
+static inline uint16_t ten_bits(uint32_t octet)
+{
+#ifdef FORMED
+    return (uint16_t)(octet | 0x200u >> __builtin_parity(octet));
+#else
+    return with_parity[octet];
+#endif
 }
 
 static inline lampcoil_verdict verdict(uint32_t number, uint32_t place)
@@ -79,21 +89,21 @@ lampcoil_verdict hand_hd_write(uint32_t group, uint32_t dbn, uint32_t phase, uin
     words[0] = 0;
     words[1] = words[2] = 0x3FF;
     words[3] = did_of_group[group - 1];
-    words[4] = with_parity[dbn];
+    words[4] = ten_bits(dbn);
     words[5] = 0x218;
-    words[6] = with_parity[phase & 255];
-    words[7] = with_parity[phase >> 8 | ck12 << 4];
+    words[6] = ten_bits(phase & 255);
+    words[7] = ten_bits(phase >> 8 | ck12 << 4);
     const uint32_t z[4] = {z1 << 3, 0, z2 << 3, 0};
     for (int n = 0; n < 4; n++) {
         uint32_t x = bodies[n] | z[n];
-        words[8 + 4 * n] = with_parity[x & 255];
-        words[9 + 4 * n] = with_parity[x >> 8 & 255];
-        words[10 + 4 * n] = with_parity[x >> 16 & 255];
-        words[11 + 4 * n] = with_parity[x >> 24];
+        words[8 + 4 * n] = ten_bits(x & 255);
+        words[9 + 4 * n] = ten_bits(x >> 8 & 255);
+        words[10 + 4 * n] = ten_bits(x >> 16 & 255);
+        words[11 + 4 * n] = ten_bits(x >> 24);
     }
     uint64_t check = checks(words);
     for (int n = 0; n < 6; n++)
-        words[24 + n] = with_parity[check >> 8 * n & 255];
+        words[24 + n] = ten_bits(check >> 8 * n & 255);
     uint32_t sum = 0;
     for (int w = 3; w < 30; w++)
         sum += words[w];
@@ -119,7 +129,7 @@ static lampcoil_verdict broken(const uint16_t *words, const uint32_t *bodies)
         if (w == 3 ? group_of(words[w]) == 0 : w != 4 && words[w] != head[w])
             return verdict(13, w);
     for (uint32_t w = 3; w < 30; w++) {
-        if (words[w] != with_parity[words[w] & 255])
+        if (words[w] != ten_bits(words[w] & 255))
             return verdict(14, w);
         sum += words[w];
     }
@@ -150,7 +160,7 @@ lampcoil_hd_read_answer hand_hd_read(const uint16_t *words, size_t words_len, ui
     bad = words[0] | (words[1] ^ 0x3FFu) | (words[2] ^ 0x3FFu) | (words[5] ^ 0x218u) | (group == 0);
     bad |= (words[7] & 0xE0u) | ((words[8] | words[16]) & 7u) | ((words[12] | words[20]) & 15u);
     for (int w = 3; w < 30; w++) {
-        bad |= words[w] ^ with_parity[words[w] & 255];
+        bad |= words[w] ^ ten_bits(words[w] & 255);
         sum += words[w];
     }
     bad |= words[30] ^ last_word(sum);
@@ -211,7 +221,7 @@ lampcoil_hd_repair_answer hand_hd_repair(const uint16_t *words, size_t words_len
             return r;
         }
     for (int w = 3; w < 30; w++) {
-        repaired[w] = with_parity[octet[w] & 255];
+        repaired[w] = ten_bits(octet[w] & 255);
         sum += repaired[w];
     }
     repaired[0] = 0;

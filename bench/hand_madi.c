@@ -5,9 +5,14 @@ static const uint16_t table_6[16] = {0x311, 0x3FF, 0x1AD, 0x1B9, 0x3E4, 0x1A7, 0
                                      0x084, 0x09F, 0x080, 0x0E7, 0x0F9, 0x004, 0x01F, 0x000};
 static const uint8_t five[16] = {30, 9, 20, 21, 10, 11, 14, 15, 18, 19, 22, 23, 26, 27, 28, 29};
 
+#ifdef FORMED
+static uint8_t group[16];       /* the group of four bits as they stand in a word */
+#else
 static uint16_t twelve[4096];   /* 15 symbols of three groups, after level 0; the lowest bits first */
 static uint16_t eight[256];     /* 10 symbols of two groups */
 static uint32_t ten[1024];      /* eight bits of two groups, or NO_GROUP */
+#endif
+static uint32_t back[32];       /* four bits of a group, or NO_GROUP */
 #define NO_GROUP 0x80000000u
 static uint16_t command[16];    /* ten symbols of a command, after level 0 */
 static uint8_t commanded[1024]; /* the command that ten bits are, or 16 */
@@ -30,24 +35,28 @@ static uint32_t levels(uint32_t bits, int count)
 
 void hand_init_madi(void)
 {
-    uint32_t back[32];
     for (uint32_t x = 0; x < 32; x++)
         back[x] = NO_GROUP;
     for (uint32_t x = 0; x < 16; x++)
         back[five[x]] = turned(x);
+#ifdef FORMED
+    for (uint32_t x = 0; x < 16; x++)
+        group[x] = five[turned(x)];
+#else
     for (uint32_t x = 0; x < 4096; x++)
         twelve[x] = (uint16_t)levels((uint32_t)five[turned(x & 15)] << 10 | (uint32_t)five[turned(x >> 4 & 15)] << 5 |
                                      five[turned(x >> 8)], 15);
     for (uint32_t x = 0; x < 256; x++)
         eight[x] = (uint16_t)levels((uint32_t)five[turned(x & 15)] << 5 | five[turned(x >> 4)], 10);
     for (uint32_t x = 0; x < 1024; x++)
+        ten[x] = (back[x >> 5] | back[x & 31]) & NO_GROUP ? NO_GROUP : back[x >> 5] | back[x & 31] << 4;
+#endif
+    for (uint32_t x = 0; x < 1024; x++)
         commanded[x] = 16;
     for (uint32_t x = 0; x < 16; x++) {
         command[x] = (uint16_t)levels(table_6[x], 10);
         commanded[table_6[x]] = (uint8_t)x;
     }
-    for (uint32_t x = 0; x < 1024; x++)
-        ten[x] = (back[x >> 5] | back[x & 31]) & NO_GROUP ? NO_GROUP : back[x >> 5] | back[x & 31] << 4;
 }
 
 static inline lampcoil_verdict verdict(uint32_t number, uint32_t place)
@@ -61,13 +70,17 @@ static lampcoil_verdict judge(const uint32_t *words, size_t n)
 {
     uint32_t low = 0, odds = 0;
     for (size_t c = 0; c < n; c++) {
-        uint32_t x = words[c] & 0xFFFFFFF0u;
         low |= words[c];
+#ifdef FORMED
+        odds |= odd(words[c]);
+#else
+        uint32_t x = words[c] & 0xFFFFFFF0u;
         x ^= x >> 16;
         x ^= x >> 8;
         x ^= x >> 4;
         x ^= x >> 2;
         odds |= x ^ x >> 1;
+#endif
     }
     if (((low & 3) | (odds & 1)) == 0)
         return verdict(0, 0);
@@ -81,6 +94,20 @@ static lampcoil_verdict judge(const uint32_t *words, size_t n)
 }
 
 /* The 40 symbols of a channel after a level that is 0 or all ones. */
+#ifdef FORMED
+static inline uint64_t channel(uint32_t word, uint64_t level)
+{
+    uint64_t x = 0;
+    for (int k = 0; k < 32; k += 4)
+        x |= (uint64_t)group[word >> k & 15] << (35 - 5 * k / 4);
+    x ^= x >> 1;
+    x ^= x >> 2;
+    x ^= x >> 4;
+    x ^= x >> 8;
+    x ^= x >> 16;
+    return (x ^ x >> 32 ^ level) & 0xFFFFFFFFFFu;
+}
+#else
 static inline uint64_t channel(uint32_t word, uint64_t level)
 {
     uint64_t a = twelve[word & 4095] ^ (level & 0x7FFF);
@@ -88,6 +115,7 @@ static inline uint64_t channel(uint32_t word, uint64_t level)
     uint64_t c = eight[word >> 24] ^ (-(b & 1) & 0x3FF);
     return a << 25 | b << 10 | c;
 }
+#endif
 
 static inline void store_five(uint8_t *p, uint64_t x)
 {
@@ -169,10 +197,10 @@ static lampcoil_verdict broken(uint64_t x, uint32_t at, uint32_t c, uint32_t act
 {
     uint32_t word = 0;
     for (uint32_t g = 0; g < 8; g++) {
-        uint32_t pair = ten[30u << 5 | (x >> (35 - 5 * g) & 31)];
-        if (pair & NO_GROUP)
+        uint32_t four = back[x >> (35 - 5 * g) & 31];
+        if (four & NO_GROUP)
             return verdict(11, at + 5 * g);
-        word |= (pair >> 4 & 15) << 4 * g;
+        word |= four << 4 * g;
     }
     if ((word & 1) != (c == 0) || (c == 0 && (word & 2) == 0) || ((word & 2) != 0 && active < c) || ((word & 2) == 0 && word != 0))
         return verdict(12, c);
@@ -182,8 +210,17 @@ static lampcoil_verdict broken(uint64_t x, uint32_t at, uint32_t c, uint32_t act
 /* The 40 bits at `at` as a word of the frame. */
 static inline lampcoil_verdict take_channel(frame *f, uint64_t x, uint32_t at)
 {
+#ifdef FORMED
+    uint32_t word = 0, bad = 0;
+    for (uint32_t g = 0; g < 8; g++) {
+        uint32_t four = back[x >> (35 - 5 * g) & 31];
+        bad |= four & NO_GROUP;
+        word |= four << 4 * g;
+    }
+#else
     uint32_t a = ten[x >> 30], b = ten[x >> 20 & 1023], c = ten[x >> 10 & 1023], d = ten[x & 1023];
     uint32_t word = a | b << 8 | c << 16 | d << 24, bad = (a | b | c | d) & NO_GROUP;
+#endif
     if ((word & 2) != 0) {
         bad |= (word & 1) ^ (f->read == 0);
         bad |= (f->active ^ f->read) | odd(word);
