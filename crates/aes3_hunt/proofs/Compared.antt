@@ -16,6 +16,7 @@ use Rattle.aes3_hunt.specs.Said.{huntSaid}
 use Rattle.aes3_hunt.specs.declared.HuntAnswer.{HuntAnswer}
 use Rattle.aes3_hunt.proofs.Cost.{cost-most}
 use Rattle.aes3_hunt.proofs.Meaning.{answer-right}
+use Rattle.aes3_hunt.proofs.Reached.{reached-found, reached-all, reached-none}
 
 -- ---- what it is for each answer
 
@@ -23,17 +24,17 @@ module _ (line : List ℕ) where
   -- over the candidates from 1 to the answer
   pub compared-found : (p : ℕ) → hunted line ≡ accepted p → compared line ≡ total (symbols line) p
   unfolding compared
-  compared-found p e = rw e
+  compared-found p e = rw e (reached-found (symbols line) (length line * 8 - 72) p)
 
   -- over all
   pub compared-all : hunted line ≡ refused 17 0 → compared line ≡ total (symbols line) (length line * 8 - 72)
   unfolding compared
-  compared-all e = rw e
+  compared-all e = rw e (reached-all (symbols line) (length line * 8 - 72))
 
   -- refusal 1 carries 0
   pub compared-none : hunted line ≡ refused 1 0 → compared line ≡ 0
-  unfolding compared total
-  compared-none e = rw e
+  unfolding compared
+  compared-none e = rw e (reached-none (symbols line) (length line * 8 - 72))
 
   -- ---- at most 16 times the number of candidates
 

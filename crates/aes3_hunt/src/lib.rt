@@ -2,11 +2,11 @@
 // over the sixteen required symbols, which leaves a candidate at its first symbol that differs. The symbols compared
 // are counted. And the block that was found, brought to octets.
 ghost use mathlib.Core.Path.{_≡_};
-ghost use Prim.Native.Nat.{_+_, _*_, _≤_};
+ghost use Prim.Native.Nat.{_+_, _*_, _^_, _≤_, _<_};
 ghost use lib.ListN.{length};
 ghost use Rattle.bits.specs.Window.{window};
 ghost use Rattle.bits.specs.Pack.{symbols};
-ghost use Rattle.answer.specs.Answer.{verdict, rewritten};
+ghost use Rattle.answer.specs.Answer.{Answer.accepted, Answer.refused, verdict, rewritten};
 ghost use Rattle.answer.specs.Said.{verdictSaid};
 ghost use Rattle.aes3_hunt.specs.Align.{aligned};
 ghost use Rattle.aes3_hunt.specs.Hunt.{boundedHunt};
@@ -47,29 +47,45 @@ fn compare(line: &[u8], p: usize) -> u32
     standing ^ required
 }
 
+// A refusal, after so many symbols were compared.
+fn refused(number: u32, compared: u32) -> HuntAnswer
+    ensures { λ r. ⌜ huntSaid r ≡ (refused number 0, compared) ⌝ }
+{
+    HuntAnswer {
+        start: NumberAnswer::Refused { number, place: 0 },
+        compared,
+    }
+}
+
+// More than 8,192 octets, of which none is looked at.
+fn too_long() -> HuntAnswer
+    ensures { λ r. ⌜ huntSaid r ≡ (refused 1 0, 0) ⌝ }
+{
+    refused(1, 0)
+}
+
+// A block that starts at p, whose sixteen symbols were compared after so many others.
+fn found(p: usize, before: u32) -> HuntAnswer
+    requires { ⌜ (p < 2 ^ 32) × (before + 16 < 2 ^ 32) ⌝ }
+    ensures { λ r. ⌜ huntSaid r ≡ (accepted p, before + 16) ⌝ }
+{
+    HuntAnswer {
+        start: NumberAnswer::Number(p as u32),
+        compared: before + 16,
+    }
+}
+
 // The smallest p at which a block starts, in symbols from the line's first on: refusal 1 for more than 8,192 octets, 17
 // where no block starts. Beside it the number of symbols that were compared.
 pub fn find_start(line: &[u8]) -> HuntAnswer
     ensures { λ r. ⌜ huntSaid r ≡ boundedHunt (now (line .entry)) ⌝ }
 {
     if 8192 < line.len() {
-        return HuntAnswer {
-            start: NumberAnswer::Refused {
-                number: 1,
-                place: 0,
-            },
-            compared: 0,
-        };
+        return too_long();
     }
     let t = line.len() * 8;
     if t < 72 {
-        return HuntAnswer {
-            start: NumberAnswer::Refused {
-                number: 17,
-                place: 0,
-            },
-            compared: 0,
-        };
+        return refused(17, 0);
     }
     let end = t - 71;
     let mut compared: u32 = 0;
@@ -81,18 +97,9 @@ pub fn find_start(line: &[u8]) -> HuntAnswer
                 continue 'next;
             }
         }
-        return HuntAnswer {
-            start: NumberAnswer::Number(p as u32),
-            compared: compared + 16,
-        };
+        return found(p, compared);
     }
-    HuntAnswer {
-        start: NumberAnswer::Refused {
-            number: 17,
-            place: 0,
-        },
-        compared,
-    }
+    refused(17, compared)
 }
 
 // Copies the 3,072 octets of symbols from a position on: refusal 1 for another room than that and for a line of more

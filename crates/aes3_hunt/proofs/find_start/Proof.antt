@@ -80,18 +80,25 @@ module _ (c : tie.At-loop Inv-loop μ-loop Inv-next μ-next) where
       let more : total r (p - 1) + 16 ≡ total r p = total-next r p 16 (omega arith) (sym (cost-same r p (none-differed h))) in
       omega (arith, c .loop .inv .3)
 
+too-long-requires : tie.Need-too-long-requires Inv-loop μ-loop Inv-next μ-next
+too-long-requires c κs = search needs
+
 returns : tie.Need-returns Inv-loop μ-loop Inv-next μ-next
-returns c = hunt-long (c .before .before .args .line .now) (c .if1 .taken)
+returns c = c .too-long .ensures ∙ hunt-long (c .before .before .before .args .line .now) (c .before .if1 .taken)
 
 mul-t : tie.Need-mul-t Inv-loop μ-loop Inv-next μ-next
 mul-t c = search needs
 
+refused-requires : tie.Need-refused-requires Inv-loop μ-loop Inv-next μ-next
+refused-requires c κs = search needs
+
 returns-2 : tie.Need-returns-2 Inv-loop μ-loop Inv-next μ-next
 returns-2 c =
-    let s = c .before .before .before .args .line .now in
+    let s = c .before .before .before .before .args .line .now in
     let n : length s * 8 - 72 ≡ 0 = omega arith in
-    hunt-ends s 0
-    (sym (first-miss (fits (symbols s)) accepted (refused 17 0) (length s * 8 - 71) 1 (omega arith)) ∙ hunt-begins s (c .before .if1 .left))
+    c .refused .ensures
+    ∙ hunt-ends s 0
+    (sym (first-miss (fits (symbols s)) accepted (refused 17 0) (length s * 8 - 71) 1 (omega arith)) ∙ hunt-begins s (c .before .before .if1 .left))
     (rw n (sym (total-none (symbols s))))
 
 sub-end : tie.Need-sub-end Inv-loop μ-loop Inv-next μ-next
@@ -148,25 +155,27 @@ loop-again c =
     let same = seen-same (r a) (p a) (k a) (omega arith) (compared-here a) (c .if3 .left) in
     (search needs, search needs, a .loop .inv .2, omega (arith, a .loop .inv .3), below-more _ _ (a .loop .inv .4) same)
 
-cast-t18 : tie.Need-cast-t18 Inv-loop μ-loop Inv-next μ-next
-cast-t18 c = search needs
-
-add-t20 : tie.Need-add-t20 Inv-loop μ-loop Inv-next μ-next
-add-t20 c =
+found-requires : tie.Need-found-requires Inv-loop μ-loop Inv-next μ-next
+found-requires c κs =
     let a = c .before in
-    omega (arith, a .loop .inv .3, total-most (r a) (p a - 1), a .before .before .before .next .inv .1)
+    (search needs, omega (arith, a .loop .inv .3, total-most (r a) (p a - 1), a .before .before .before .next .inv .1))
 
 returns-3 : tie.Need-returns-3 Inv-loop μ-loop Inv-next μ-next
 returns-3 c =
-    let a = c .before in
-    hunt-found (line a) (p a) (a .loop .compared + 16) (found a (c .loop-test .left)) (found-count a (c .loop-test .left))
+    let a = c .before .before in
+    let all : 16 ≤ k a = c .before .loop-test .left in
+    c .found .ensures ∙ hunt-found (line a) (p a) (a .loop .compared + 16) (found a all) (found-count a all)
+
+refused-requires-2 : tie.Need-refused-requires-2 Inv-loop μ-loop Inv-next μ-next
+refused-requires-2 c κs = search needs
 
 returns-4 : tie.Need-returns-4 Inv-loop μ-loop Inv-next μ-next
 returns-4 c =
-    let n = c .before .next in
-    let s = c .before .before .before .before .before .args .line .now in
+    let n = c .before .before .next in
+    let s = c .before .before .before .before .before .before .args .line .now in
     let last : n .p - 1 ≡ length s * 8 - 72 = omega (arith, n .inv .1) in
-    hunt-ends s (n .compared)
+    c .refused2 .ensures
+    ∙ hunt-ends s (n .compared)
     (sym (first-miss (fits (symbols s)) accepted (refused 17 0) (length s * 8 - 71) (n .p) (omega arith)) ∙ n .inv .2)
     (n .inv .3 ∙ ap (total (symbols s)) last)
 
@@ -178,8 +187,10 @@ find-start-spec =
     μ-loop
     Inv-next
     μ-next
+    too-long-requires
     returns
     mul-t
+    refused-requires
     returns-2
     sub-end
     next-holds
@@ -195,7 +206,7 @@ find-start-spec =
     add-k
     loop-less
     loop-again
-    cast-t18
-    add-t20
+    found-requires
     returns-3
+    refused-requires-2
     returns-4)
