@@ -1,8 +1,11 @@
 -- `status::described` meets its contract, field by field.
 -- Assumes nothing.
+use mathlib.Core.Path.{sym, ap, _∙_}
+use Prim.Native.Nat.{ℕ, _/_, _%_}
 use native.Mathlib.Nat.{div-one}
 use borrow.Author.Needs.{needs}
-use Rattle.status.specs.Meaning.{describedBy}
+use Rattle.status.specs.Meaning.{modeOf, auxiliaryOf, wordLengthOf, describedBy}
+use Rattle.status.specs.declared.Auxiliary.{Auxiliary}
 use Rattle.status.proofs.described.Statement.{statement}
 use Rattle.status.proofs.described.Tie as tie
 
@@ -41,18 +44,17 @@ returns c =
     let emphasis = lock .before in
     let auxiliary = emphasis .before in
     let bytes = auxiliary .before .args in
-    rw (
-      c .alignment-of .ensures,
-      word .word-length-of .ensures,
-      user .user-of .ensures,
-      mode .mode-of .ensures,
-      rate .rate-of .ensures,
-      lock .lock-of .ensures,
-      emphasis .emphasis-of .ensures,
-      auxiliary .auxiliary-of .ensures,
-      div-one (bytes .byte1),
-      div-one (bytes .byte2),
-    )
+    let aux = auxiliary .auxiliary-of .ensures ∙ ap (λ (x : ℕ). auxiliaryOf (x % 8)) (sym (div-one (bytes .byte2))) in
+    λ i. record {
+      emphasis = emphasis .emphasis-of .ensures i;
+      lock = lock .lock-of .ensures i;
+      rate = rate .rate-of .ensures i;
+      mode = (mode .mode-of .ensures ∙ ap (λ (x : ℕ). modeOf (x % 16)) (sym (div-one (bytes .byte1)))) i;
+      user = user .user-of .ensures i;
+      auxiliary = aux i;
+      «word_length» = (word .word-length-of .ensures ∙ ap (λ (a : Auxiliary). wordLengthOf a (bytes .byte2 / 8 % 8)) aux) i;
+      alignment = c .alignment-of .ensures i;
+    }
 
 pub described-spec : {M : Type 1} → statement M
 described-spec =

@@ -39,22 +39,24 @@ returns c =
     let rate = mode .before in
     let lock = rate .before in
     let emphasis = lock .before in
-    rw (
-      c .alignment-number .ensures .0,
-      c .alignment-number .ensures .1,
-      word .word-length-number .ensures .0,
-      word .word-length-number .ensures .1,
-      auxiliary .auxiliary-number .ensures .0,
-      auxiliary .auxiliary-number .ensures .1,
-      user .user-number .ensures .0,
-      user .user-number .ensures .1,
-      mode .mode-number .ensures .0,
-      mode .mode-number .ensures .1,
-      rate .rate-number .ensures,
-      lock .lock-number .ensures,
-      emphasis .emphasis-number .ensures .0,
-      emphasis .emphasis-number .ensures .1,
-    )
+    λ i. record {
+      usage = 1;
+      audio = emphasis .before .args .audio;
+      emphasis = emphasis .emphasis-number .ensures .0 i;
+      «emphasis_bits» = emphasis .emphasis-number .ensures .1 i;
+      lock = lock .lock-number .ensures i;
+      rate = rate .rate-number .ensures i;
+      mode = mode .mode-number .ensures .0 i;
+      «mode_bits» = mode .mode-number .ensures .1 i;
+      user = user .user-number .ensures .0 i;
+      «user_bits» = user .user-number .ensures .1 i;
+      auxiliary = auxiliary .auxiliary-number .ensures .0 i;
+      «auxiliary_bits» = auxiliary .auxiliary-number .ensures .1 i;
+      «word_length» = word .word-length-number .ensures .0 i;
+      «word_length_bits» = word .word-length-number .ensures .1 i;
+      alignment = c .alignment-number .ensures .0 i;
+      «alignment_bits» = c .alignment-number .ensures .1 i;
+    }
 
 pub numbers-by-spec : {M : Type 1} → statement M
 numbers-by-spec =
