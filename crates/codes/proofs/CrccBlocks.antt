@@ -20,7 +20,8 @@ use Rattle.codes.specs.Differences.{xored, differences}
 use Rattle.codes.proofs.Linear.{through-xor}
 use Rattle.codes.proofs.Emptied.{own-number, only-its-own}
 use Rattle.codes.proofs.Xored.{length-xored, sent-length, sent-xored}
-use Rattle.codes.proofs.Stages.{octet-lt, stages-lt, stages-next}
+use Rattle.codes.proofs.SentOctet.{octet-lt}
+use Rattle.codes.proofs.Stages.{stages-lt, stages-next}
 
 -- the CRCC's stages s after octets
 abbrev pub stagesFrom : ℕ → List ℕ → ℕ

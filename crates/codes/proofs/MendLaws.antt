@@ -1,7 +1,7 @@
 -- Repair of a lane goes by what it lacks, and repair of the lanes by their octets is repair of each. Assumes nothing.
 use mathlib.Core.Path.{_≡_, refl, sym, ap, _∙_, subst}
 use mathlib.Core.Logic.{_⊎_, ⊎-elim}
-use mathlib.Core.Bool.{false, not}
+use mathlib.Core.Bool.{true, false, not}
 use mathlib.Core.List.{List, _++_, map}
 use Prim.Native.Nat.{ℕ, zero, suc, _+_, _-_, _^_, _≤_, _<_}
 use native.Mathlib.Nat.{add-zero, lt-irrefl}
@@ -22,11 +22,14 @@ use Rattle.bits.proofs.Crossing.{length-crossed}
 use Rattle.bits.proofs.Filling.{length-over}
 use Rattle.bits.proofs.Beside.{inverted, length-inverted, across-other, across-inverted, same-or-not, below-set}
 use Rattle.answer.specs.Answer.{Answer, Answer.accepted, Answer.refused}
+use Rattle.answer.specs.Demand.{_&_}
+use Rattle.answer.specs.Demand.Stops.{found, later}
+use Rattle.answer.proofs.Chains.{passing, stopped}
 use Rattle.codes.specs.Lane.{flip, repaired}
 use Rattle.codes.proofs.Syndrome.{satisfies-lt}
-use Rattle.codes.proofs.LaneLaws.{repair-gives-near, atPlace, repaired-by-place}
+use Rattle.codes.proofs.LaneLaws.{repair-gives-near, repaired-by-place}
 use Rattle.codes.specs.Lanes.{laneOf, lanesOf, refuses, hopelessAt, laneIn, mendedLane, mendedOctets, lanesApart}
-use Rattle.codes.specs.Inner.{syndrome, placeFor, mendedLanes, mendedTo}
+use Rattle.codes.specs.Inner.{syndrome, placeFor, atPlace, mendedLanes, mendedTo, mendAnswer, lanesDone, octetsAfter}
 use Rattle.codes.proofs.CheckLaws.{length-lanes, getD-lanes, map-lanes, map-lane, by-lanes, lane-across, across-below, by-map, lane-map, lane-lt}
 
 -- ---- one lane, by what it lacks
@@ -226,3 +229,22 @@ module _ (os : List ℕ) (h : length os ≡ 30) (b : Below (2 ^ 8) os) where
 
     pub clean-count : lanesApart 8 (mendedOctets os) os ≡ 0
     clean-count = ap (λ (xs : List ℕ). lanesApart 8 xs os) clean-octets ∙ none-apart 8 os
+
+-- ---- the answer, and the octets that it leaves
+
+-- none of the lanes before i is refused
+abbrev pub Passed : List ℕ → ℕ → Type 0
+Passed os i = (j : ℕ) → j < i → hopelessAt os j ≡ false
+
+module _ (os : List ℕ) (h : length os ≡ 30) where
+  pub whole : Passed os 8 → accepted (lanesApart 8 (mendedOctets os) os) ≡ mendAnswer os
+  unfolding mendAnswer
+  whole none = sym (passing _ _ (eq-eqb (length os) 30 h & (λ j a l. none j (omega arith)) & tt))
+
+  pub halted : (i : ℕ) → i < 8 → Passed os i → hopelessAt os i ≡ true → refused 15 i ≡ mendAnswer os
+  unfolding mendAnswer
+  halted i l none t = sym (stopped _ (later (eq-eqb (length os) 30 h) (found (omega arith) (omega arith) t (λ j a m. none j m))))
+
+  pub after : (a : Answer ℕ) → a ≡ mendAnswer os → mendedTo (lanesDone a) os ≡ octetsAfter os
+  unfolding octetsAfter
+  after a e = rw (eq-eqb (length os) 30 h) (ap (λ (x : Answer ℕ). mendedTo (lanesDone x) os) e)

@@ -7,7 +7,7 @@ use borrow.Author.Needs.{needs}
 use lib.ListN.{getD}
 use Rattle.codes.specs.Crcc.{octetOf}
 use Rattle.codes.specs.Inner.{crccAdded}
-use Rattle.codes.proofs.Stages.{octet-lt}
+use Rattle.codes.proofs.SentOctet.{octet-lt}
 use Rattle.codes.proofs.EditLaws.{followed, added-first, added-next}
 use Rattle.codes.proofs.crcc_added.Statement.{statement}
 use Rattle.codes.proofs.crcc_added.Tie as tie

@@ -1,18 +1,16 @@
--- `codes::status_edit` meets its contract: the tests in their order, and byte 23 from the difference.
+-- `codes::status_edit` meets its contract: the tests in their order.
 -- Assumes nothing.
-use mathlib.Core.Path.{sym, ap, _∙_}
-use mathlib.Core.Bool.{not}
+use mathlib.Core.Path.{_≡_, sym, ap, _∙_}
+use mathlib.Core.Bool.{true, not}
 use borrow.Author.Needs.{needs}
 use borrow.Author.Tests.{eq-eqb, ne-eqb, le-leb, lt-leb}
-use lib.ListN.{getD, set, length-set}
-use lib.Bits.{bitXor}
+use lib.ListN.{set, length-set}
 use Rattle.bits.proofs.Inverting.{not-not}
 use Rattle.answer.specs.Demand.{_&_}
 use Rattle.answer.specs.Demand.Stops.{fails, later}
 use Rattle.answer.proofs.Residues.{shows-refusal, shows-acceptance}
-use Rattle.codes.specs.Crcc.{crccOf}
+use Rattle.codes.specs.Crcc.{crccOf, crccRight}
 use Rattle.codes.specs.Edit.{withByte, editAnswer}
-use Rattle.codes.proofs.EditLaws.{crcc-from-difference}
 use Rattle.codes.proofs.status_edit.Statement.{statement}
 use Rattle.codes.proofs.status_edit.Tie as tie
 
@@ -45,23 +43,17 @@ returns-4 c =
     (later (eq-eqb _ 24 (p .before .before .if1 .left))
     (later (le-leb _ _ (p .before .if2 .left)) (later (le-leb _ _ (p .if3 .left)) (fails r))))
 
-cast-new : tie.Need-cast-new
-cast-new c = search needs
+cast-put-byte : tie.Need-cast-put-byte
+cast-put-byte c = search needs
 
-slice-read-last : tie.Need-slice-read-last
-slice-read-last c = search needs
+-- the CRCC was right
+right : (c : tie.Else4) → crccRight (c .before .before .before .before .before .before .before .args .status .now) ≡ true
+right c = sym (c .before .crcc-right .ensures) ∙ sym (not-not (c .before .crcc-right .result)) ∙ ap not (c .if4 .left)
 
-slice-read-crcc-added : tie.Need-slice-read-crcc-added
-slice-read-crcc-added c = search needs
-
-crcc-added-requires : tie.Need-crcc-added-requires
-crcc-added-requires c κs = search needs
-
-slice-write-status : tie.Need-slice-write-status
-slice-write-status c = search needs
-
-slice-write-status-2 : tie.Need-slice-write-status-2
-slice-write-status-2 c = search needs
+put-byte-requires : tie.Need-put-byte-requires
+put-byte-requires c κs =
+    let p = c .before .before .before .before in
+    (p .before .before .if1 .left, p .before .if2 .left, right (c .before))
 
 same-length-2 : tie.Need-same-length-2
 same-length-2 c = search needs
@@ -69,18 +61,13 @@ same-length-2 c = search needs
 returns-5 : tie.Need-returns-5
 unfolding editAnswer withByte
 returns-5 c =
-    let q = c .before .before .before in
+    let q = c .before .before .before .before in
     let p = q .before .before .before in
-    let r = sym (q .before .crcc-right .ensures) ∙ sym (not-not (q .before .crcc-right .result)) ∙ ap not (q .if4 .left) in
-    let status = p .before .before .before .before .args .status .now in
-    let byte = p .before .before .before .before .args .byte in
-    let value = p .before .before .before .before .args .value in
-    let new = set status byte value in
+    let a = p .before .before .before .before .args in
+    let new = set (a .status .now) (a .byte) (a .value) in
     shows-acceptance _ _ _ _ _
-    (eq-eqb _ 24 (p .before .before .if1 .left) & le-leb _ _ (p .before .if2 .left) & le-leb _ _ (p .if3 .left) & r & tt)
-    (length-set new 23 (crccOf new) ∙ length-set status byte value)
-    (ap (set new 23)
-    (ap (bitXor (getD status 23 0)) (c .crcc-added .ensures) ∙ crcc-from-difference status byte value r (p .before .if2 .left)))
+    (eq-eqb _ 24 (p .before .before .if1 .left) & le-leb _ _ (p .before .if2 .left) & le-leb _ _ (p .if3 .left) & right q & tt)
+    (length-set new 23 (crccOf new) ∙ length-set (a .status .now) (a .byte) (a .value)) (c .before .before .put-byte .ensures)
 
 pub status-edit-spec : {M : Type 1} → statement M
 status-edit-spec =
@@ -92,11 +79,7 @@ status-edit-spec =
     crcc-right-requires
     same-length
     returns-4
-    cast-new
-    slice-read-last
-    slice-read-crcc-added
-    crcc-added-requires
-    slice-write-status
-    slice-write-status-2
+    cast-put-byte
+    put-byte-requires
     same-length-2
     returns-5)

@@ -1,9 +1,9 @@
--- `codes::lacks` meets its contract. Assumes nothing.
+-- `codes::eight_lanes::lacks` meets its contract. Assumes nothing.
 use native.Mathlib.Omega.{arith}
 use Rattle.codes.proofs.CheckLaws.{lacks-wide}
 use borrow.Author.Needs.{needs}
-use Rattle.codes.proofs.lacks.Statement.{statement}
-use Rattle.codes.proofs.lacks.Tie as tie
+use Rattle.codes.proofs.eight_lanes.lacks.Statement.{statement}
+use Rattle.codes.proofs.eight_lanes.lacks.Tie as tie
 
 checks-requires : tie.Need-checks-requires
 checks-requires c κs = search needs

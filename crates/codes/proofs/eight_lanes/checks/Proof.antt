@@ -1,4 +1,4 @@
--- `codes::checks` meets its contract: the octets that are left, fed to what the divider holds, give the whole. Assumes nothing.
+-- `codes::eight_lanes::checks` meets its contract: the octets that are left, fed to what the divider holds, give the whole. Assumes nothing.
 use mathlib.Core.Path.{_≡_, refl, sym, ap, _∙_}
 use mathlib.Core.List.{List, [], _∷_}
 use Prim.Native.Nat.{ℕ, _+_, _-_, _^_, _≤_, _<_}
@@ -10,8 +10,8 @@ use Rattle.bits.proofs.Bounds.{below-take}
 use Rattle.codes.specs.Lanes.{checkOctets}
 use Rattle.codes.proofs.Wide.{stepped, fedAll, fed-next, fed-done}
 use Rattle.codes.proofs.CheckLaws.{zeros, checks-wide}
-use Rattle.codes.proofs.checks.Statement.{statement}
-use Rattle.codes.proofs.checks.Tie as tie
+use Rattle.codes.proofs.eight_lanes.checks.Statement.{statement}
+use Rattle.codes.proofs.eight_lanes.checks.Tie as tie
 
 abbrev Inv-loop : tie.InvT-loop
 Inv-loop octets s0₀ s1₀ s2₀ s3₀ s4₀ s5₀ k₀ s0 s1 s2 s3 s4 s5 k =
