@@ -1,7 +1,8 @@
 // Samples and side table from bodies: each column of a channel is laid octet by octet, of eight bodies.
 ghost use mathlib.Core.Path.{_≡_};
-ghost use Prim.Native.Nat.{_*_, _<_};
-ghost use lib.ListN.{length};
+ghost use Prim.Native.Nat.{_+_, _-_, _*_, _/_, _^_, _<_};
+ghost use lib.ListN.{length, getD};
+ghost use Rattle.subframe.specs.Body.{parityOf};
 ghost use Rattle.block.specs.Side.{columnBits, columns, columnLength, sideLength};
 ghost use Rattle.block.specs.Block.{samplesOf, sideOf};
 ghost use Rattle.block.specs.Inner.{digitsOf, apartTable, gathered, laid, channelSide};
@@ -22,12 +23,27 @@ pub(crate) fn fill_samples(bodies: &[u32], samples: &mut [i32])
     }
 }
 
+// Slots 28 to 31 of a body, and 16 where it is odd.
+fn slots_and_parity(body: u32) -> u32
+    ensures { λ r. ⌜ (r ≡ body / 2 ^ 28 + parityOf body * 16) × (r < 32) ⌝ }
+{
+    body / 268435456 + subframe::parity(body) * 16
+}
+
 // What the columns hold of a body, column k at weight 256^k: slots 28 to 30 and whether it is odd, by a table, at once.
 fn apart(table: &[u32], body: u32) -> u32
     requires { ⌜ now table ≡ apartTable ⌝ }
     ensures { λ r. ⌜ r ≡ digitsOf columnBits body ⌝ }
 {
-    table[(body / 268435456 + subframe::parity(body) * 16) as usize]
+    table[slots_and_parity(body) as usize]
+}
+
+// Of the eight bodies of a channel that octet j is of, the one that is m before the last.
+fn body_at(bodies: &[u32], channel: usize, j: usize, m: usize) -> u32
+    requires { ⌜ (length (now bodies) ≡ 384) × (channel < 2) × (j < columnLength) × (m < 8) ⌝ }
+    ensures { λ r. ⌜ r ≡ getD (now (bodies .entry)) (2 * (j * 8 + 7 - m) + channel) 0 ⌝ }
+{
+    bodies[2 * (j * 8 + 7 - m) + channel]
 }
 
 // Octet j of each column of a channel, column k at weight 256^k: eight of its bodies, the last first.
@@ -38,7 +54,7 @@ fn channel_octets(table: &[u32], bodies: &[u32], channel: usize, j: usize) -> u3
     let mut n: u32 = 0;
     let mut m = 0;
     while m < 8 {
-        let b = bodies[2 * (j * 8 + 7 - m) + channel];
+        let b = body_at(bodies, channel, j, m);
         n = n * 2 + apart(table, b);
         m += 1;
     }

@@ -4,8 +4,10 @@ ghost use mathlib.Core.Path.{_≡_};
 ghost use lib.ListN.{length};
 ghost use Rattle.answer.specs.Answer.{verdict, after};
 ghost use Rattle.answer.specs.Said.{verdictSaid};
+ghost use Rattle.block.specs.Side.{sideLength};
 ghost use Rattle.block.specs.Block.{samplesOf, sideOf, blockFilled};
 ghost use Rattle.block.specs.Check.{statusRight, checked};
+ghost use Rattle.block.specs.Inner.{AllInRange, Gathers, checkedByStatus};
 
 mod by_status;
 mod fault_map;
@@ -82,6 +84,25 @@ pub fn status_right(side: &[u8], channel: usize) -> bool
     codes::crcc_right(&side[a..e])
 }
 
+// Refusals 4, 5, 6 and 18 of a block whose samples are in range: by its status, and by the length that it declares.
+fn check_by_status(samples: &[i32], all: u64, side: &[u8]) -> Verdict
+    requires { ⌜ (length (now samples) ≡ 384) × (length (now side) ≡ sideLength) × AllInRange (now samples) × Gathers (now samples) 192 all ⌝ }
+    ensures { λ r. ⌜ verdictSaid r ≡ checkedByStatus (now (samples .entry)) (now (side .entry)) ⌝ }
+{
+    let status = by_status::check_status(side);
+    if let Verdict::Refused { number, place } = status {
+        return Verdict::Refused { number, place };
+    }
+    let k = under_mask::first_overlong(samples, all, side);
+    if k < 384 {
+        return Verdict::Refused {
+            number: 18,
+            place: k as u32,
+        };
+    }
+    Verdict::Accepted
+}
+
 // Refusals 1, 20, 3, 4, 5, 6 and 18 of a block.
 pub fn check_block(samples: &[i32], side: &[u8]) -> Verdict
     ensures { λ r. ⌜ verdictSaid r ≡ checked (now (samples .entry)) (now (side .entry)) ⌝ }
@@ -113,16 +134,5 @@ pub fn check_block(samples: &[i32], side: &[u8]) -> Verdict
             place: i as u32,
         };
     }
-    let status = by_status::check_status(side);
-    if let Verdict::Refused { number, place } = status {
-        return Verdict::Refused { number, place };
-    }
-    let k = under_mask::first_overlong(samples, all, side);
-    if k < 384 {
-        return Verdict::Refused {
-            number: 18,
-            place: k as u32,
-        };
-    }
-    Verdict::Accepted
+    check_by_status(samples, all, side)
 }

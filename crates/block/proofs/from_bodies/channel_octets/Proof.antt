@@ -1,5 +1,5 @@
 -- `block::from_bodies::channel_octets` meets its contract: after m turns n holds the last m of the eight frames. Assumes nothing.
-use mathlib.Core.Path.{_≡_, refl, sym, ap₂, _∙_}
+use mathlib.Core.Path.{_≡_, refl, sym, ap, ap₂, _∙_}
 use mathlib.Core.List.{List}
 use Prim.Native.Nat.{ℕ, _+_, _-_, _*_, _/_, _^_, _≤_, _<_}
 use native.Mathlib.Omega.{arith}
@@ -45,26 +45,10 @@ loop-holds c =
     let a = c .before .before .args in
     (omega arith, sym (none columnBits (a .bodies .now) (a .channel) (a .j * 8 + 8 - 0)))
 
-mul-b : tie.Need-mul-b Inv-loop μ-loop
-mul-b c = omega arith
-
-add-b : tie.Need-add-b Inv-loop μ-loop
-add-b c = omega arith
-
-sub-b : tie.Need-sub-b Inv-loop μ-loop
-sub-b c = omega arith
-
-mul-b-2 : tie.Need-mul-b-2 Inv-loop μ-loop
-mul-b-2 c = omega arith
-
-add-b-2 : tie.Need-add-b-2 Inv-loop μ-loop
-add-b-2 c = omega arith
-
-mul-b-3 : tie.Need-mul-b-3 Inv-loop μ-loop
-mul-b-3 c = omega arith
-
-shared-slice-read-b : tie.Need-shared-slice-read-b Inv-loop μ-loop
-shared-slice-read-b c = omega arith
+body-at-requires : tie.Need-body-at-requires Inv-loop μ-loop
+body-at-requires c κs =
+    let s = c .before .before .before .before in
+    (s .pre .1, s .pre .2, s .pre .3, c .loop-test .taken)
 
 mul-n : tie.Need-mul-n Inv-loop μ-loop
 mul-n c = omega (arith, room (c .before .before) (omega arith) (omega arith))
@@ -72,8 +56,12 @@ mul-n c = omega (arith, room (c .before .before) (omega arith) (omega arith))
 apart-requires : tie.Need-apart-requires Inv-loop μ-loop
 apart-requires c κs = c .before .before .before .before .before .pre .0
 
+-- what the turn adds
+added : (c : tie.After-apart Inv-loop μ-loop) → c .apart .result ≡ digitsOf columnBits (body (c .before .before .before))
+added c = c .apart .ensures ∙ ap (digitsOf columnBits) (c .before .body-at .ensures)
+
 add-n : tie.Need-add-n Inv-loop μ-loop
-add-n c = omega (arith, c .apart .ensures, room (c .before .before .before) (omega arith) (omega arith))
+add-n c = omega (arith, added c, room (c .before .before .before) (omega arith) (omega arith))
 
 add-m : tie.Need-add-m Inv-loop μ-loop
 add-m c = omega arith
@@ -85,7 +73,7 @@ loop-again : tie.Need-loop-again Inv-loop μ-loop
 loop-again c =
     let p = c .before .before .before in (
       omega arith,
-      ap₂ (λ (x y : ℕ). x * 2 + y) (p .loop .inv .1) (c .apart .ensures)
+      ap₂ (λ (x y : ℕ). x * 2 + y) (p .loop .inv .1) (added c)
           ∙ sym (more (bodies p) (p .before .before .before .args .channel) (j p * 8) (m p) columnBits (omega arith) (c .before .before .loop-test .taken)),
     )
 
@@ -103,13 +91,7 @@ channel-octets-spec =
     Inv-loop
     μ-loop
     loop-holds
-    mul-b
-    add-b
-    sub-b
-    mul-b-2
-    add-b-2
-    mul-b-3
-    shared-slice-read-b
+    body-at-requires
     mul-n
     apart-requires
     add-n
