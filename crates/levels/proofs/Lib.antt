@@ -1,4 +1,5 @@
 -- The laws of the level sheet, from whole numbers up to the calls.
+pub mod AtOnce
 pub mod Wholes
 pub mod Accepted
 pub mod Places

@@ -1,5 +1,6 @@
 // Which sheets are accepted: how far each line may reach, and whether a channel has room for more samples.
 ghost use mathlib.Core.Path.{_≡_};
+ghost use mathlib.Core.Bool.{_&&_};
 ghost use Prim.Native.Nat.{_<_, _≤_, _^_};
 ghost use lib.IntN.{natAbs};
 ghost use lib.ListN.{length};
@@ -117,7 +118,7 @@ pub(crate) fn sound_sheet(sheet: &[i64]) -> bool
 }
 
 // Whether the channel whose samples stand at line k has room for n more.
-pub(crate) fn has_room(sheet: &[i64], k: usize, n: u64) -> bool
+fn has_room(sheet: &[i64], k: usize, n: u64) -> bool
     requires { ⌜ k < length (now sheet) ⌝ }
     ensures { λ r. ⌜ r ≡ hasRoom (now (sheet .entry)) k n ⌝ }
 {
@@ -125,4 +126,23 @@ pub(crate) fn has_room(sheet: &[i64], k: usize, n: u64) -> bool
         return false;
     }
     line_at(sheet, k) <= 0x1_0000_0000 - n
+}
+
+// Whether both channels have room: A for a samples more, B for b.
+pub(crate) fn have_room(sheet: &[i64], a: u64, b: u64) -> bool
+    requires { ⌜ length (now sheet) ≡ 20 ⌝ }
+    ensures { λ r. ⌜ r ≡ (hasRoom (now (sheet .entry)) 0 a && hasRoom (now (sheet .entry)) 10 b) ⌝ }
+{
+    if has_room(sheet, 0, a) {
+        return has_room(sheet, 10, b);
+    }
+    false
+}
+
+// Whether both have room for a block more.
+pub(crate) fn room_for_block(sheet: &[i64]) -> bool
+    requires { ⌜ length (now sheet) ≡ 20 ⌝ }
+    ensures { λ r. ⌜ r ≡ (hasRoom (now (sheet .entry)) 0 192 && hasRoom (now (sheet .entry)) 10 192) ⌝ }
+{
+    have_room(sheet, 192, 192)
 }

@@ -1,7 +1,10 @@
 // The level sheet: two channels of ten numbers, started, added to and joined.
 ghost use mathlib.Core.Path.{_≡_};
+ghost use mathlib.Core.Bool.{_&&_};
+ghost use lib.Dec.{eqb};
 ghost use Rattle.answer.specs.Answer.{verdict};
 ghost use Rattle.answer.specs.Said.{verdictSaid};
+ghost use Rattle.block.specs.Side.{sideLength};
 ghost use Rattle.levels.specs.Lines.{emptyLine};
 ghost use Rattle.levels.specs.Calls.{asBlock, startAnswer, startLeft, joinAnswer, joinLeft, addAnswer, addLeft};
 
@@ -63,12 +66,10 @@ pub fn join(sheet: &mut [i64], later: &[i64]) -> Verdict
     if judging::sound_sheet(sheet) {
         if judging::sound_sheet(later) {
             let a = judging::line_at(later, 0);
-            if judging::has_room(sheet, 0, a) {
-                let b = judging::line_at(later, 10);
-                if judging::has_room(sheet, 10, b) {
-                    joined::join_lines(sheet, later);
-                    return Verdict::Accepted;
-                }
+            let b = judging::line_at(later, 10);
+            if judging::have_room(sheet, a, b) {
+                joined::join_lines(sheet, later);
+                return Verdict::Accepted;
             }
             return Verdict::Refused {
                 number: 22,
@@ -82,24 +83,25 @@ pub fn join(sheet: &mut [i64], later: &[i64]) -> Verdict
     }
 }
 
+// Whether these are the lengths of a sheet, of a block's samples and of its side table.
+fn are_lengths(lines: usize, samples: usize, side: usize) -> bool
+    ensures { λ r. ⌜ r ≡ (eqb lines 20 && eqb samples 384 && eqb side sideLength) ⌝ }
+{
+    if lines != 20 {
+        return false;
+    }
+    if samples != 384 {
+        return false;
+    }
+    side == block::SIDE
+}
+
 // The sheet with one block more, in place of the sheet: refusals 1, 2, 3 and 22.
 pub fn add(sheet: &mut [i64], samples: &[i32], side: &[u8]) -> Verdict
     ensures { λ r. ⌜ verdictSaid r ≡ verdict (addAnswer (now (sheet .entry)) (asBlock (now (samples .entry)) (now (side .entry)))) ⌝ }
     ensures { λ _. ⌜ now (sheet .exit) ≡ addLeft (now (sheet .entry)) (asBlock (now (samples .entry)) (now (side .entry))) ⌝ }
 {
-    if sheet.len() != 20 {
-        return Verdict::Refused {
-            number: 1,
-            place: 0,
-        };
-    }
-    if samples.len() != 384 {
-        return Verdict::Refused {
-            number: 1,
-            place: 0,
-        };
-    }
-    if side.len() != block::SIDE {
+    if !are_lengths(sheet.len(), samples.len(), side.len()) {
         return Verdict::Refused {
             number: 1,
             place: 0,
@@ -115,12 +117,10 @@ pub fn add(sheet: &mut [i64], samples: &[i32], side: &[u8]) -> Verdict
                 place: i as u32,
             };
         }
-        if judging::has_room(sheet, 0, 192) {
-            if judging::has_room(sheet, 10, 192) {
-                let one = one_block::lay_block(a, b, side);
-                joined::join_lines(sheet, &one);
-                return Verdict::Accepted;
-            }
+        if judging::room_for_block(sheet) {
+            let one = one_block::lay_block(a, b, side);
+            joined::join_lines(sheet, &one);
+            return Verdict::Accepted;
         }
         return Verdict::Refused {
             number: 22,

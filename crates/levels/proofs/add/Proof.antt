@@ -1,13 +1,16 @@
 -- `levels::add` meets its contract, demand by demand. Assumes nothing.
 use mathlib.Core.Path.{_≡_, refl, sym, ap, ap₂, _∙_}
-use mathlib.Core.Bool.{true, false}
+use mathlib.Core.Bool.{Bool, true, not, _&&_}
 use mathlib.Core.List.{List, [], _∷_}
 use Prim.Native.Nat.{ℕ}
 use native.Mathlib.Omega.{arith}
 use borrow.Author.Needs.{needs}
-use borrow.Author.Tests.{eq-eqb, ne-eqb}
+use borrow.Author.Tests.{eqb-true}
+use lib.Dec.{eqb}
 use lib.IntN.{ℤ}
 use lib.ListN.{length}
+use Rattle.bits.proofs.Tests.{both-true}
+use Rattle.bits.proofs.Inverting.{not-not}
 use Rattle.answer.specs.Demand.{Demand.findsNone, Met, _&_}
 use Rattle.answer.specs.Demand.Stops.{fails, later}
 use Rattle.answer.proofs.Chains.{place-found, none-found}
@@ -16,9 +19,10 @@ use Rattle.block.specs.Side.{sideLength}
 use Rattle.block.specs.Check.{outside}
 use Rattle.levels.specs.Lines.{sheetSound, sheetJoined}
 use Rattle.levels.specs.Sheets.{Block, sheetOf}
-use Rattle.levels.specs.Calls.{Fit, asBlock, addAnswer}
+use Rattle.levels.specs.Calls.{Fit, hasRoom, asBlock, addAnswer}
 use Rattle.levels.specs.Inner.{blockLines}
 use Rattle.levels.specs.declared.figures.Figures.{Figures}
+use Rattle.levels.proofs.AtOnce.{one-of-two, one-of-three}
 use Rattle.levels.proofs.Blocks.{sheet-one-sound}
 use Rattle.levels.proofs.Folds.{block-laid}
 use Rattle.levels.proofs.Places.{length-joined, length-sheet}
@@ -36,54 +40,65 @@ module _ (s : tie.Start) where
   b = asBlock samples (s .args .side .now)
 
 -- the lengths
-module _ (t : tie.Else3) where
+module _ (t : tie.Else1) where
   abbrev start : tie.Start
-  start = t .before .before .before .before
+  start = t .before .before .before
 
-  one : length (old start) ≡ 20
-  one = t .before .before .if1 .left
+  abbrev lines20 : Bool
+  lines20 = eqb (length (old start)) 20
 
-  two : length (samples start) ≡ 384
-  two = t .before .if2 .left
+  abbrev samples384 : Bool
+  samples384 = eqb (length (samples start)) 384
 
-  three : length (start .args .side .now) ≡ sideLength
-  three = t .if3 .left
+  abbrev sideRight : Bool
+  sideRight = eqb (length (start .args .side .now)) sideLength
+
+  right-lengths : (lines20 && samples384 && sideRight) ≡ true
+  right-lengths = sym (t .before .are-lengths .ensures) ∙ sym (not-not (t .before .are-lengths .result)) ∙ ap not (t .if1 .left)
+
+  one : lines20 ≡ true
+  one = both-true lines20 samples384 (both-true (lines20 && samples384) sideRight right-lengths .0) .0
+
+  two : samples384 ≡ true
+  two = both-true lines20 samples384 (both-true (lines20 && samples384) sideRight right-lengths .0) .1
+
+  three : sideRight ≡ true
+  three = both-true (lines20 && samples384) sideRight right-lengths .1
 
 -- the sheet is accepted
-module _ (t : tie.Then4) where
-  abbrev lengths : tie.Else3
+module _ (t : tie.Then2) where
+  abbrev lengths : tie.Else1
   lengths = t .before .before .before
 
   right : sheetSound (old (start lengths)) ≡ true
-  right = sym (t .before .sound-sheet .ensures) ∙ t .if4 .taken
+  right = sym (t .before .sound-sheet .ensures) ∙ t .if2 .taken
 
 -- no sample is out of range
-module _ (t : tie.Else5) where
-  abbrev accepted-sheet : tie.Then4
+module _ (t : tie.Else3) where
+  abbrev accepted-sheet : tie.Then2
   accepted-sheet = t .before .before .before .before
 
   abbrev from : tie.Start
   from = start (lengths accepted-sheet)
 
   none : Met (findsNone 3 (outside (samples from)) 0 384)
-  none = none-found (outside (samples from)) 384 (t .before .first-outside .result) (t .before .first-outside .ensures) (t .if5 .left)
+  none = none-found (outside (samples from)) 384 (t .before .first-outside .result) (t .before .first-outside .ensures) (t .if3 .left)
 
   fit : Fit (samples from)
   fit i h = none i (omega arith) (omega arith)
 
--- A has room, and B
-module _ (t : tie.Then6) where
-  abbrev in-range : tie.Else5
+-- there is room for a block more
+module _ (t : tie.Then4) where
+  abbrev in-range : tie.Else3
   in-range = t .before .before .before
 
-module _ (t : tie.Then7) where
-  abbrev room-of-A : tie.Then6
-  room-of-A = t .before .before .before
+  room : (hasRoom (old (from in-range)) 0 192 && hasRoom (old (from in-range)) 10 192) ≡ true
+  room = sym (t .before .room-for-block .ensures) ∙ t .if4 .taken
 
 -- the block's sheet
 module _ (t : tie.After-lay-block) where
-  abbrev fitting : tie.Else5
-  fitting = in-range (room-of-A (t .before))
+  abbrev fitting : tie.Else3
+  fitting = in-range (t .before)
 
   laid : t .lay-block .result ≡ sheetOf (b (from fitting) ∷ [])
   laid =
@@ -92,59 +107,51 @@ module _ (t : tie.After-lay-block) where
       (fitting .before .before .gather2 .ensures .0)
       ∙ block-laid (samples (from fitting)) (from fitting .args .side .now)
 
+are-lengths-requires : tie.Need-are-lengths-requires
+are-lengths-requires c κs = search needs
+
 returns : tie.Need-returns
 unfolding addAnswer
-returns c = shows-refusal _ _ _ _ (fails (ne-eqb _ 20 (c .if1 .taken)))
-
-returns-2 : tie.Need-returns-2
-unfolding addAnswer
-returns-2 c = shows-refusal _ _ _ _ (later (eq-eqb _ 20 (c .before .if1 .left)) (fails (ne-eqb _ 384 (c .if2 .taken))))
-
-returns-3 : tie.Need-returns-3
-unfolding addAnswer
-returns-3 c =
-    shows-refusal _ _ _ _
-    (later (eq-eqb _ 20 (c .before .before .if1 .left)) (later (eq-eqb _ 384 (c .before .if2 .left)) (fails (ne-eqb _ sideLength
-    (c .if3 .taken)))))
+returns c =
+    let r = c .before .are-lengths in
+    shows-refusal _ _ _ _ (one-of-three _ _ _ (sym (r .ensures) ∙ sym (not-not (r .result)) ∙ ap not (c .if1 .taken)))
 
 sound-sheet-requires : tie.Need-sound-sheet-requires
-sound-sheet-requires c κs = search needs
+sound-sheet-requires c κs = eqb-true _ 20 (one (c .before))
 
 gather-requires : tie.Need-gather-requires
-gather-requires c κs = (two (lengths c), omega arith)
+gather-requires c κs = (eqb-true _ 384 (two (lengths c)), omega arith)
 
 gather-requires-2 : tie.Need-gather-requires-2
-gather-requires-2 c κs = (two (lengths (c .before)), omega arith)
+gather-requires-2 c κs = (eqb-true _ 384 (two (lengths (c .before))), omega arith)
 
 first-outside-requires : tie.Need-first-outside-requires
-first-outside-requires c κs = (two (lengths (c .before .before)), c .before .gather .ensures .0, c .gather2 .ensures .0)
+first-outside-requires c κs =
+    (eqb-true _ 384 (two (lengths (c .before .before))), c .before .gather .ensures .0, c .gather2 .ensures .0)
 
-cast-t14 : tie.Need-cast-t14
-cast-t14 c = search needs
+cast-t17 : tie.Need-cast-t17
+cast-t17 c = search needs
 
 same-length : tie.Need-same-length
 same-length c = search needs
 
-returns-4 : tie.Need-returns-4
+returns-2 : tie.Need-returns-2
 unfolding addAnswer
-returns-4 c =
+returns-2 c =
     let p = c .before .before .before .before in
     let t = lengths p in
     shows-refusal _ _ _ _
-    (later (eq-eqb _ 20 (one t)) (later (eq-eqb _ 384 (two t)) (later (eq-eqb _ sideLength (three t)) (later (right p)
+    (later (one t) (later (two t) (later (three t) (later (right p)
     (place-found (outside (samples (start t))) 384 (c .before .first-outside .result) (c .before .first-outside .ensures)
-    (c .if5 .taken))))))
+    (c .if3 .taken))))))
 
-has-room-requires : tie.Need-has-room-requires
-has-room-requires c κs = search needs
-
-has-room-requires-2 : tie.Need-has-room-requires-2
-has-room-requires-2 c κs = search needs
+room-for-block-requires : tie.Need-room-for-block-requires
+room-for-block-requires c κs = eqb-true _ 20 (one (lengths (accepted-sheet (c .before))))
 
 lay-block-requires : tie.Need-lay-block-requires
 lay-block-requires c κs =
-    let e = in-range (room-of-A c) in
-    (three (lengths (accepted-sheet e)), e .before .before .before .gather .ensures .1, e .before .before .gather2 .ensures .1)
+    let e = in-range c in
+    (eqb-true _ sideLength (three (lengths (accepted-sheet e))), e .before .before .before .gather .ensures .1, e .before .before .gather2 .ensures .1)
 
 slice-aggregate-join-lines : tie.Need-slice-aggregate-join-lines
 slice-aggregate-join-lines c = search needs
@@ -154,7 +161,7 @@ join-lines-requires c κs =
     let l = c .before .before in
     let e = fitting l in
     let t = lengths (accepted-sheet e) in (
-      one t,
+      eqb-true _ 20 (one t),
       ap length (laid l) ∙ length-sheet (b (start t) ∷ []),
       right (accepted-sheet e),
       ap sheetSound (laid l) ∙ sheet-one-sound (b (start t)) (fit e),
@@ -163,82 +170,61 @@ join-lines-requires c κs =
 same-length-2 : tie.Need-same-length-2
 same-length-2 c = search needs
 
-returns-5 : tie.Need-returns-5
+returns-3 : tie.Need-returns-3
 unfolding addAnswer
-returns-5 c =
+returns-3 c =
     let l = c .before .before .before .before in
-    let seven = l .before in
-    let six = room-of-A seven in
     let e = fitting l in
     let p = accepted-sheet e in
     let t = lengths p in
-    shows-acceptance _ _ _ _ _
-    (eq-eqb _ 20 (one t) & eq-eqb _ 384 (two t) & eq-eqb _ sideLength (three t) & right p & none e
-    & (sym (six .before .has-room .ensures) ∙ six .if6 .taken) & (sym (seven .before .has-room2 .ensures) ∙ seven .if7 .taken) & tt)
-    (length-joined (old (start t)) (sheetOf (b (start t) ∷ [])) ∙ sym (one t))
+    let r = both-true _ _ (room (l .before)) in
+    shows-acceptance _ _ _ _ _ (one t & two t & three t & right p & none e & r .0 & r .1 & tt)
+    (length-joined (old (start t)) (sheetOf (b (start t) ∷ [])) ∙ sym (eqb-true _ 20 (one t)))
     (c .before .join-lines .ensures ∙ ap (sheetJoined (old (start t))) (laid l))
 
 same-length-3 : tie.Need-same-length-3
 same-length-3 c = search needs
 
-returns-6 : tie.Need-returns-6
+returns-4 : tie.Need-returns-4
 unfolding addAnswer
-returns-6 c =
-    let six = c .before .before .before in
-    let e = in-range six in
-    let p = accepted-sheet e in
-    let t = lengths p in
-    shows-refusal _ _ _ _
-    (later (eq-eqb _ 20 (one t)) (later (eq-eqb _ 384 (two t)) (later (eq-eqb _ sideLength (three t)) (later (right p) (later (none e)
-    (later (sym (six .before .has-room .ensures) ∙ six .if6 .taken) (fails (sym (c .before .has-room2 .ensures) ∙ c .if7 .left))))))))
-
-same-length-4 : tie.Need-same-length-4
-same-length-4 c = search needs
-
-returns-7 : tie.Need-returns-7
-unfolding addAnswer
-returns-7 c =
+returns-4 c =
     let e = c .before .before .before in
     let p = accepted-sheet e in
     let t = lengths p in
     shows-refusal _ _ _ _
-    (later (eq-eqb _ 20 (one t)) (later (eq-eqb _ 384 (two t)) (later (eq-eqb _ sideLength (three t)) (later (right p) (later (none e)
-    (fails (sym (c .before .has-room .ensures) ∙ c .if6 .left)))))))
+    (later (one t) (later (two t) (later (three t) (later (right p) (later (none e)
+    (one-of-two _ _ (sym (c .before .room-for-block .ensures) ∙ c .if4 .left)))))))
 
-same-length-5 : tie.Need-same-length-5
-same-length-5 c = search needs
+same-length-4 : tie.Need-same-length-4
+same-length-4 c = search needs
 
-returns-8 : tie.Need-returns-8
+returns-5 : tie.Need-returns-5
 unfolding addAnswer
-returns-8 c =
+returns-5 c =
     let t = c .before .before .before in
-    shows-refusal _ _ _ _ (later (eq-eqb _ 20 (one t)) (later (eq-eqb _ 384 (two t)) (later (eq-eqb _ sideLength (three t)) (fails (sym
-    (c .before .sound-sheet .ensures) ∙ c .if4 .left)))))
+    shows-refusal _ _ _ _
+    (later (one t) (later (two t) (later (three t) (fails (sym (c .before .sound-sheet .ensures) ∙ c .if2 .left)))))
 
 pub add-spec : {M : Type 1} → statement M
 add-spec =
     tie.close
     (tie.spec
+    are-lengths-requires
     returns
-    returns-2
-    returns-3
     sound-sheet-requires
     gather-requires
     gather-requires-2
     first-outside-requires
-    cast-t14
+    cast-t17
     same-length
-    returns-4
-    has-room-requires
-    has-room-requires-2
+    returns-2
+    room-for-block-requires
     lay-block-requires
     slice-aggregate-join-lines
     join-lines-requires
     same-length-2
-    returns-5
+    returns-3
     same-length-3
-    returns-6
+    returns-4
     same-length-4
-    returns-7
-    same-length-5
-    returns-8)
+    returns-5)

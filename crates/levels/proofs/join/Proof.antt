@@ -1,17 +1,19 @@
 -- `levels::join` meets its contract, demand by demand. Assumes nothing.
 use mathlib.Core.Path.{_≡_, sym, ap, _∙_}
-use mathlib.Core.Bool.{true, false}
+use mathlib.Core.Bool.{true, _&&_}
 use mathlib.Core.List.{List}
 use Prim.Native.Nat.{ℕ}
 use native.Mathlib.Omega.{arith}
 use borrow.Author.Tests.{eq-eqb, ne-eqb}
 use lib.IntN.{ℤ, natAbs}
 use lib.ListN.{length}
+use Rattle.bits.proofs.Tests.{both-true}
 use Rattle.answer.specs.Demand.{_&_}
 use Rattle.answer.specs.Demand.Stops.{fails, later}
 use Rattle.answer.proofs.Residues.{shows-refusal, shows-acceptance}
 use Rattle.levels.specs.Lines.{lineAt, sheetSound, sheetJoined}
 use Rattle.levels.specs.Calls.{hasRoom, joinAnswer}
+use Rattle.levels.proofs.AtOnce.{one-of-two}
 use Rattle.levels.proofs.Places.{length-joined}
 use borrow.Author.Needs.{needs}
 use Rattle.levels.proofs.join.Statement.{statement}
@@ -43,15 +45,11 @@ second-sound : (t : tie.Then4) → sheetSound (after (start (t .before .before .
 second-sound t = sym (t .before .sound-sheet2 .ensures) ∙ t .if4 .taken
 
 -- what was said of the room
-first-room : (t : tie.After-has-room)
-    → let s = start (t .before .before .before .before .before .before .before .before) in
-    t .has-room .result ≡ hasRoom (old s) 0 (natAbs (lineAt (after s) 0))
-first-room t = rw (t .before .before .line-at .ensures) at (t .has-room .ensures)
-
-second-room : (t : tie.After-has-room2)
-    → let s = start (t .before .before .before .before .before .before .before .before .before .before .before .before) in
-    t .has-room2 .result ≡ hasRoom (old s) 10 (natAbs (lineAt (after s) 10))
-second-room t = rw (t .before .before .line-at2 .ensures) at (t .has-room2 .ensures)
+said : (t : tie.After-have-room)
+    → let s = start (t .before .before .before .before .before .before .before .before .before) in
+    t .have-room .result
+    ≡ (hasRoom (old s) 0 (natAbs (lineAt (after s) 0)) && hasRoom (old s) 10 (natAbs (lineAt (after s) 10)))
+said t = rw (t .before .before .before .line-at .ensures, t .before .before .line-at2 .ensures) at (t .have-room .ensures)
 
 returns : tie.Need-returns
 unfolding joinAnswer
@@ -70,20 +68,17 @@ sound-sheet-requires-2 c κs = search needs
 line-at-requires : tie.Need-line-at-requires
 line-at-requires c κs = search needs
 
-has-room-requires : tie.Need-has-room-requires
-has-room-requires c κs = search needs
-
 line-at-requires-2 : tie.Need-line-at-requires-2
 line-at-requires-2 c κs = search needs
 
-has-room-requires-2 : tie.Need-has-room-requires-2
-has-room-requires-2 c κs = search needs
+have-room-requires : tie.Need-have-room-requires
+have-room-requires c κs = search needs
 
 join-lines-requires : tie.Need-join-lines-requires
 join-lines-requires c κs =
-    let far = c .before .before .before .before .before .before .before .before in
-    let t = far .before .before .before .before .before .before in
-    (ofOne t, two t, first-sound (far .before .before .before), second-sound (far .before))
+    let s = c .before .before .before .before .before .before in
+    let t = s .before .before .before .before .before in
+    (ofOne t, two t, first-sound (s .before .before), second-sound s)
 
 same-length : tie.Need-same-length
 same-length c = search needs
@@ -91,13 +86,12 @@ same-length c = search needs
 returns-3 : tie.Need-returns-3
 unfolding joinAnswer
 returns-3 c =
-    let far = c .before .before .before .before .before .before .before .before in
-    let t = far .before .before .before .before .before .before .before .before in
+    let r = c .before .before .before in
+    let s = r .before .before .before .before .before in
+    let t = s .before .before .before .before .before in
+    let h = both-true _ _ (sym (said (r .before)) ∙ r .if5 .taken) in
     shows-acceptance _ _ _ _ _
-    (eq-eqb _ 20 (ofOne t) & eq-eqb _ 20 (two t) & first-sound (far .before .before .before .before .before) & second-sound
-    (far .before .before .before)
-    & (sym (first-room (far)) ∙ c .before .before .before .before .before .before .before .if5 .taken) & (sym (second-room
-    (c .before .before .before .before)) ∙ c .before .before .before .if6 .taken) & tt)
+    (eq-eqb _ 20 (ofOne t) & eq-eqb _ 20 (two t) & first-sound (s .before .before) & second-sound s & h .0 & h .1 & tt)
     (length-joined (old (start t)) (after (start t)) ∙ sym (ofOne t)) (c .before .join-lines .ensures)
 
 same-length-2 : tie.Need-same-length-2
@@ -106,12 +100,11 @@ same-length-2 c = search needs
 returns-4 : tie.Need-returns-4
 unfolding joinAnswer
 returns-4 c =
-    let far = c .before .before .before .before .before .before .before .before in
-    let t = far .before .before .before .before .before in
+    let s = c .before .before .before .before .before in
+    let t = s .before .before .before .before .before in
     shows-refusal _ _ _ _
-    (later (eq-eqb _ 20 (ofOne t)) (later (eq-eqb _ 20 (two t)) (later (first-sound (far .before .before)) (later (second-sound (far))
-    (later (sym (first-room (c .before .before .before .before .before)) ∙ c .before .before .before .before .if5 .taken) (fails (sym
-    (second-room (c .before)) ∙ c .if6 .left)))))))
+    (later (eq-eqb _ 20 (ofOne t)) (later (eq-eqb _ 20 (two t)) (later (first-sound (s .before .before)) (later (second-sound s)
+    (one-of-two _ _ (sym (said (c .before)) ∙ c .if5 .left))))))
 
 same-length-3 : tie.Need-same-length-3
 same-length-3 c = search needs
@@ -119,12 +112,10 @@ same-length-3 c = search needs
 returns-5 : tie.Need-returns-5
 unfolding joinAnswer
 returns-5 c =
-    let far = c .before .before .before .before .before .before .before .before in
-    let t = far .before in
+    let t = c .before .before .before .before .before in
     shows-refusal _ _ _ _
-    (later (eq-eqb _ 20 (ofOne t)) (later (eq-eqb _ 20 (two t)) (later (first-sound (c .before .before .before .before .before .before))
-    (later (second-sound (c .before .before .before .before))
-    (fails (sym (first-room (c .before)) ∙ c .if5 .left))))))
+    (later (eq-eqb _ 20 (ofOne t)) (later (eq-eqb _ 20 (two t)) (later (first-sound (c .before .before)) (fails (sym
+    (c .before .sound-sheet2 .ensures) ∙ c .if4 .left)))))
 
 same-length-4 : tie.Need-same-length-4
 same-length-4 c = search needs
@@ -132,17 +123,6 @@ same-length-4 c = search needs
 returns-6 : tie.Need-returns-6
 unfolding joinAnswer
 returns-6 c =
-    let t = c .before .before .before .before .before in
-    shows-refusal _ _ _ _
-    (later (eq-eqb _ 20 (ofOne t)) (later (eq-eqb _ 20 (two t)) (later (first-sound (c .before .before)) (fails (sym
-    (c .before .sound-sheet2 .ensures) ∙ c .if4 .left)))))
-
-same-length-5 : tie.Need-same-length-5
-same-length-5 c = search needs
-
-returns-7 : tie.Need-returns-7
-unfolding joinAnswer
-returns-7 c =
     let t = c .before .before .before in
     shows-refusal _ _ _ _ (later (eq-eqb _ 20 (ofOne t)) (later (eq-eqb _ 20 (two t)) (fails (sym (c .before .sound-sheet .ensures)
     ∙ c .if3 .left))))
@@ -156,9 +136,8 @@ join-spec =
     sound-sheet-requires
     sound-sheet-requires-2
     line-at-requires
-    has-room-requires
     line-at-requires-2
-    has-room-requires-2
+    have-room-requires
     join-lines-requires
     same-length
     returns-3
@@ -167,6 +146,4 @@ join-spec =
     same-length-3
     returns-5
     same-length-4
-    returns-6
-    same-length-5
-    returns-7)
+    returns-6)
