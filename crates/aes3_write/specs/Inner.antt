@@ -1,5 +1,6 @@
 -- Clauses that only inner functions need. Assumes nothing.
-use Prim.Native.Nat.{ℕ, zero, suc, _+_, _-_, _*_, _/_, _^_}
+use mathlib.Core.Path.{_≡_}
+use Prim.Native.Nat.{ℕ, zero, suc, _+_, _-_, _*_, _/_, _%_, _^_, _<_}
 use mathlib.Core.Bool.{Bool, false, xor}
 use mathlib.Core.List.{List, _++_}
 use lib.ListN.{getD}
@@ -7,7 +8,7 @@ use Rattle.bits.specs.Pick.{pick}
 use Rattle.bits.specs.Row.{Row, odd, bit, bigBits}
 use Rattle.bits.specs.Listed.{listed}
 use Rattle.line.specs.Preamble.{afterLevel}
-use Rattle.line.specs.Biphase.{biphase}
+use Rattle.line.specs.Biphase.{biphase, biphaseTable}
 use Rattle.subframe.specs.Body.{slots, bodyOf}
 use Rattle.block.specs.Side.{validity, user, status, columns, columnLength}
 use Rattle.block.specs.Block.{sideAt}
@@ -31,6 +32,17 @@ inverters a b c = inverter 16 a * 2 ^ 24 + (inverter 16 (xor b a) * 2 ^ 8 + inve
 
 unfoldable pub invertersTable : List ℕ
 invertersTable = listed 0 8 (λ x. inverters (odd (x / 4)) (odd (x / 2)) (odd x))
+
+-- the table's entry for eight bits, for level 0
+abbrev pub entryFor : ℕ → ℕ
+entryFor d = getD biphaseTable d 0
+
+-- r holds those of a sample's 24 bits, that of the lowest eight highest
+pub record ThreeEntries (code r : ℕ) : Type 0 where
+  pub together : r ≡ (entryFor (code % 256) * 65536 + entryFor (code / 256 % 256)) * 65536 + entryFor (code / 65536)
+  pub first : entryFor (code % 256) < 65536
+  pub second : entryFor (code / 256 % 256) < 65536
+  pub third : entryFor (code / 65536) < 65536
 
 -- the body of a sample's 24 bits, and of V, U and C at weights 1, 2 and 4
 unfoldable pub bodyWith : ℕ → ℕ → ℕ

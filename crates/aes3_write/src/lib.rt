@@ -17,7 +17,7 @@ ghost use Rattle.block.specs.Block.{bodiesOf};
 ghost use Rattle.block.specs.Check.{checked};
 ghost use Rattle.aes3_line.specs.Line.{lineFrom};
 ghost use Rattle.aes3_write.specs.Writer.{blockLine, writeAnswer};
-ghost use Rattle.aes3_write.specs.Inner.{inverters, invertersTable, opened, wordAfter, bodyWith, flagsFrom, spread, spreadTable, eightFlags};
+ghost use Rattle.aes3_write.specs.Inner.{inverters, invertersTable, ThreeEntries, opened, wordAfter, bodyWith, flagsFrom, spread, spreadTable, eightFlags};
 
 mod tables;
 
@@ -62,17 +62,25 @@ fn last_slots(code: u32, flags: u32) -> u32
     flags + subframe::parity(code * 256 + flags * 16) * 8
 }
 
+// The table's entries for a sample's 24 bits, each for level 0, the first highest.
+fn three_entries(table: &[u16], code: u32) -> u64
+    requires { ⌜ (now table ≡ biphaseTable) × (code < 2 ^ 24) ⌝ }
+    ensures { λ r. ⌜ ThreeEntries code r ⌝ }
+{
+    let a = entry(table, code % 256);
+    let b = entry(table, code / 256 % 256);
+    let c = entry(table, code / 65536);
+    (a * 65536 + b) * 65536 + c
+}
+
 // The 56 symbols of a body after level 0, the first highest, from a sample's 24 bits and from V, U and C: three entries of
 // the table, and slots 28 to 31 by the first eight symbols of an entry.
 fn slots_word(table: &[u16], inverting: &[u64], code: u32, flags: u32) -> u64
     requires { ⌜ (now table ≡ biphaseTable) × (now inverting ≡ invertersTable) × (code < 2 ^ 24) × (flags < 8) ⌝ }
     ensures { λ r. ⌜ (r ≡ big (biphase false (slots (bodyWith code flags)))) × (r < 2 ^ 56) ⌝ }
 {
-    let a = entry(table, code % 256);
-    let b = entry(table, code / 256 % 256);
-    let c = entry(table, code / 65536);
+    let u = three_entries(table, code);
     let d = entry(table, last_slots(code, flags));
-    let u = (a * 65536 + b) * 65536 + c;
     let v = inverters_of(inverting, u);
     (u * 256 + d / 256) ^ v
 }
