@@ -5,11 +5,11 @@ ghost use mathlib.Core.List.{_∷_, [], _++_};
 ghost use Prim.Native.Nat.{_+_, _≤_, _<_};
 ghost use lib.ListN.{length};
 ghost use Rattle.answer.specs.Answer.{Answer.refused};
-ghost use Rattle.records.specs.Record.{outcomeSaid};
+ghost use Rattle.records.specs.Record.{outcomeSaid, recordAnswer};
 ghost use Rattle.report.specs.Text.{heading, cutLine, decimal, singleText, pairText, answerText, lineOf, countLine};
 ghost use Rattle.report.specs.Placed.{startIn, startOf, withText};
 ghost use Rattle.report.specs.Inner.{Put};
-ghost use Rattle.report.specs.Report.{printed, stepOf};
+ghost use Rattle.report.specs.Report.{going, printed, stepOf};
 ghost use Rattle.report.specs.Night.{fieldText, nameOf, lastText, groupLine, refusedCount, refusedLine, refusedLines, groupLines, endText, nightHeading, figuresText};
 use records::Outcome;
 use records::Turn;
@@ -133,14 +133,6 @@ pub fn begin(out: &mut [u8; 128]) -> usize
     put(out, 128, b"carrier report 1\n")
 }
 
-// The line of record n.
-fn record_line(n: u64, o: Outcome, out: &mut [u8; 128]) -> usize
-    ensures { λ r. ⌜ r ≡ startOf (lineOf n (outcomeSaid o)) ⌝ }
-    ensures { λ _. ⌜ now (out .exit) ≡ withText (lineOf n (outcomeSaid o)) (now (out .entry)) ⌝ }
-{
-    put_line(out, 128, n, o)
-}
-
 // The line that ends the report.
 fn count_line(n: u64, out: &mut [u8; 128]) -> usize
     ensures { λ r. ⌜ r ≡ startOf (countLine n) ⌝ }
@@ -177,6 +169,18 @@ fn too_long(n: u64, out: &mut [u8; 128]) -> usize
 
 // ---- a record
 
+// What record n comes to.
+fn print_record(n: u64, body: &[u8], out: &mut [u8; 128]) -> Step
+    ensures { λ r. ⌜ r ≡ stepOf (going n (lineOf n (recordAnswer (now (body .entry))))) ⌝ }
+    ensures { λ _. ⌜ now (out .exit) ≡ withText (lineOf n (recordAnswer (now (body .entry)))) (now (out .entry)) ⌝ }
+{
+    Step {
+        from: put_line(out, 128, n, records::judge(body)),
+        records: n,
+        last: false,
+    }
+}
+
 // What a header and the octets read after it come to, after n records.
 pub fn print(n: u64, head: &[u8], body: &[u8], out: &mut [u8; 128]) -> Step
     ensures { λ r. ⌜ r ≡ stepOf (printed n (now (head .entry)) (now (body .entry))) ⌝ }
@@ -198,11 +202,7 @@ pub fn print(n: u64, head: &[u8], body: &[u8], out: &mut [u8; 128]) -> Step
             records: count,
             last: true,
         },
-        Turn::Record(count) => Step {
-            from: record_line(count, records::judge(body), out),
-            records: count,
-            last: false,
-        },
+        Turn::Record(count) => print_record(count, body, out),
     }
 }
 

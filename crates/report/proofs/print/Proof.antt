@@ -1,10 +1,9 @@
 -- `report::print` meets its contract. Assumes nothing.
 use mathlib.Core.List.{[]}
 use Rattle.answer.specs.Answer.{Answer.refused}
-use Rattle.records.specs.Record.{recordAnswer}
 use Rattle.report.specs.Text.{cutLine, lineOf}
-use Rattle.report.specs.Report.{printedFor}
-use Rattle.report.proofs.Steps.{prints-turn, ends, goes}
+use Rattle.report.specs.Report.{going, printedFor}
+use Rattle.report.proofs.Steps.{prints-turn, ends}
 use borrow.Author.Needs.{needs}
 use Rattle.report.proofs.print.Statement.{statement}
 use Rattle.report.proofs.print.Tie as tie
@@ -33,11 +32,8 @@ too-long-requires c κs = search needs
 enum-known-count-4 : tie.Need-enum-known-count-4
 enum-known-count-4 c = search needs
 
-judge-requires : tie.Need-judge-requires
-judge-requires c κs = search needs
-
-record-line-requires : tie.Need-record-line-requires
-record-line-requires c κs = search needs
+print-record-requires : tie.Need-print-record-requires
+print-record-requires c κs = search needs
 
 returns : tie.Need-returns
 unfolding printedFor
@@ -67,15 +63,12 @@ returns-3 c =
     (ends (k .count3 .given .0 .0) (lineOf (k .count3 .given .0 .0) (refused 2 0)) (s .out .now) (c .too-long .ensures))
 
 returns-4 : tie.Need-returns-4
-unfolding printedFor
+unfolding printedFor going
 returns-4 c =
-    let j = c .before .before in
-    let k = j .before .before in
+    let k = c .before .before .before in
     let t = k .before .before in
     let s = t .before .before .before .args in
-    prints-turn (s .n) (s .head .now) (s .body .now) (s .out .now) (t .turn-after .ensures) (k .count4 .given .1)
-    (goes (k .count4 .given .0 .0) (lineOf (k .count4 .given .0 .0) (recordAnswer (s .body .now))) (s .out .now)
-    (rw (j .judge .ensures) at (c .record-line .ensures)))
+    prints-turn (s .n) (s .head .now) (s .body .now) (s .out .now) (t .turn-after .ensures) (k .count4 .given .1) (c .print-record .ensures)
 
 pub print-spec : {M : Type 1} → statement M
 print-spec =
@@ -89,8 +82,7 @@ print-spec =
     enum-known-count-3
     too-long-requires
     enum-known-count-4
-    judge-requires
-    record-line-requires
+    print-record-requires
     returns
     returns-2
     returns-3
