@@ -1,6 +1,7 @@
 // The answers of the crates below, laid into the structs that C receives: document 01's number and place, then the
 // values, which are 0 on a refusal, but for the hunt's count.
 ghost use mathlib.Core.Path.{_≡_};
+ghost use Rattle.answer.specs.Answer.{Answer.refused};
 ghost use Rattle.answer.specs.Said.{verdictSaid, numberSaid};
 ghost use Rattle.aes3_read.specs.Reader.{blockSaid};
 ghost use Rattle.aes3_hunt.specs.Said.{huntSaid};
@@ -92,7 +93,18 @@ pub fn block(a: aes3_read::ReadAnswer) -> ToldBlock
     }
 }
 
-// The count is told beside a refusal too.
+// No start: the count is told beside the refusal.
+fn no_start(number: u32, place: u32, count: u32) -> ToldStart
+    ensures { λ r. ⌜ r ≡ toldStart (refused number place, count) ⌝ }
+{
+    ToldStart {
+        number,
+        place,
+        position: 0,
+        compared: count,
+    }
+}
+
 pub fn start(a: aes3_hunt::HuntAnswer) -> ToldStart
     ensures { λ r. ⌜ r ≡ toldStart (huntSaid a) ⌝ }
 {
@@ -105,12 +117,7 @@ pub fn start(a: aes3_hunt::HuntAnswer) -> ToldStart
             position,
             compared,
         },
-        NumberAnswer::Refused { number, place } => ToldStart {
-            number,
-            place,
-            position: 0,
-            compared,
-        },
+        NumberAnswer::Refused { number, place } => no_start(number, place, compared),
     }
 }
 
