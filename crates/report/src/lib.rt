@@ -1,16 +1,19 @@
 // The report on a stream of records, one record at a time: the program over it only reads, calls this and writes.
 // Each text is made at the end of a lent buffer, and the function that makes it answers where it starts.
 ghost use mathlib.Core.Path.{_≡_};
-ghost use mathlib.Core.List.{_∷_, [], _++_};
+ghost use mathlib.Core.List.{_++_};
 ghost use Prim.Native.Nat.{_+_, _≤_, _<_};
 ghost use lib.ListN.{length};
 ghost use Rattle.answer.specs.Answer.{Answer.refused};
 ghost use Rattle.records.specs.Record.{outcomeSaid, recordAnswer};
-ghost use Rattle.report.specs.Text.{heading, cutLine, decimal, singleText, pairText, answerText, lineOf, countLine};
+ghost use Rattle.report.specs.Text.{heading, cutLine, answerText, lineOf, countLine};
 ghost use Rattle.report.specs.Placed.{startIn, startOf, withText};
-ghost use Rattle.report.specs.Inner.{Put};
+ghost use Rattle.report.specs.Inner.{Put, tailText};
 ghost use Rattle.report.specs.Report.{going, printed, stepOf};
-ghost use Rattle.report.specs.Night.{fieldText, nameOf, lastText, groupLine, refusedCount, refusedLine, refusedLines, groupLines, endText, nightHeading, figuresText};
+ghost use Rattle.report.specs.Night.{nameOf, lastText, groupLine, refusedCount, refusedLine, refusedLines, groupLines, endText, nightHeading, figuresText};
+
+mod text;
+
 use records::Outcome;
 use records::Turn;
 use replay::Next;
@@ -23,73 +26,7 @@ pub struct Step {
     pub last: bool,
 }
 
-// ---- text, put before a place of a buffer; each function answers where the text starts. A line is so made from its end, as the
-// digits of a number are, and nothing is copied.
-
-fn put_octet(out: &mut [u8], end: usize, x: u8) -> usize
-    requires { ⌜ (1 ≤ end) × (end ≤ length (now out)) ⌝ }
-    ensures { λ r. ⌜ Put (now (out .entry)) end (x ∷ []) r (now (out .exit)) ⌝ }
-{
-    let at = end - 1;
-    out[at] = x;
-    at
-}
-
-fn put(out: &mut [u8], end: usize, word: &[u8]) -> usize
-    requires { ⌜ (length (now word) ≤ end) × (end ≤ length (now out)) ⌝ }
-    ensures { λ r. ⌜ Put (now (out .entry)) end (now (word .entry)) r (now (out .exit)) ⌝ }
-{
-    let from = end - word.len();
-    let mut i = 0;
-    while i < word.len() {
-        out[from + i] = word[i];
-        i += 1;
-    }
-    from
-}
-
-fn put_number(out: &mut [u8], end: usize, n: u64) -> usize
-    requires { ⌜ (20 ≤ end) × (end ≤ length (now out)) ⌝ }
-    ensures { λ r. ⌜ Put (now (out .entry)) end (decimal n) r (now (out .exit)) ⌝ }
-    ensures { λ r. ⌜ end ≤ r + 20 ⌝ }
-{
-    let base = end - 20;
-    let mut left: usize = 20;
-    let mut rest = n;
-    while 0 < left {
-        left -= 1;
-        out[base + left] = (48 + rest % 10) as u8;
-        rest /= 10;
-        if rest == 0 {
-            return base + left;
-        }
-    }
-    base
-}
-
-// A word and a number, which end the line.
-fn put_single(out: &mut [u8], end: usize, word: &[u8], a: u64) -> usize
-    requires { ⌜ (length (now word) + 21 ≤ end) × (end ≤ length (now out)) ⌝ }
-    ensures { λ r. ⌜ Put (now (out .entry)) end (singleText (now (word .entry)) a) r (now (out .exit)) ⌝ }
-    ensures { λ r. ⌜ end ≤ r + length (now (word .entry)) + 21 ⌝ }
-{
-    let t = put_octet(out, end, b'\n');
-    let t = put_number(out, t, a);
-    put(out, t, word)
-}
-
-// A word and two numbers, which end the line.
-fn put_pair(out: &mut [u8], end: usize, word: &[u8], a: u32, b: u32) -> usize
-    requires { ⌜ (length (now word) + 42 ≤ end) × (end ≤ length (now out)) ⌝ }
-    ensures { λ r. ⌜ Put (now (out .entry)) end (pairText (now (word .entry)) a b) r (now (out .exit)) ⌝ }
-    ensures { λ r. ⌜ end ≤ r + length (now (word .entry)) + 42 ⌝ }
-{
-    let t = put_octet(out, end, b'\n');
-    let t = put_number(out, t, b as u64);
-    let t = put_octet(out, t, b' ');
-    let t = put_number(out, t, a as u64);
-    put(out, t, word)
-}
+// ---- the lines of a report, put before a place of a buffer
 
 fn put_outcome(out: &mut [u8], end: usize, o: Outcome) -> usize
     requires { ⌜ (51 ≤ end) × (end ≤ length (now out)) ⌝ }
@@ -97,11 +34,17 @@ fn put_outcome(out: &mut [u8], end: usize, o: Outcome) -> usize
     ensures { λ r. ⌜ end ≤ r + 51 ⌝ }
 {
     match o {
-        Outcome::Aes3 { a, b } => put_pair(out, end, b" aes3 ok ", a, b),
-        Outcome::Hd { group, dbn } => put_pair(out, end, b" hd ok ", group, dbn),
-        Outcome::Madi { active, commands } => put_pair(out, end, b" madi ok ", active, commands),
-        Outcome::Ctl { group } => put_single(out, end, b" ctl ok ", group as u64),
-        Outcome::Refused { number, place } => put_pair(out, end, b" refused ", number, place),
+        Outcome::Aes3 { a, b } => text::put_pair(out, end, b" aes3 ok ", a, b),
+        Outcome::Hd { group, dbn } => text::put_pair(out, end, b" hd ok ", group, dbn),
+        Outcome::Madi { active, commands } => text::put_pair(
+            out,
+            end,
+            b" madi ok ",
+            active,
+            commands,
+        ),
+        Outcome::Ctl { group } => text::put_single(out, end, b" ctl ok ", group as u64),
+        Outcome::Refused { number, place } => text::put_pair(out, end, b" refused ", number, place),
     }
 }
 
@@ -111,7 +54,7 @@ fn put_line(out: &mut [u8], end: usize, n: u64, o: Outcome) -> usize
     ensures { λ r. ⌜ Put (now (out .entry)) end (lineOf n (outcomeSaid o)) r (now (out .exit)) ⌝ }
 {
     let t = put_outcome(out, end, o);
-    put_number(out, t, n)
+    text::put_number(out, t, n)
 }
 
 // The line that ends the report, at the end of the buffer.
@@ -120,7 +63,7 @@ fn put_count(out: &mut [u8], n: u64) -> usize
     ensures { λ r. ⌜ Put (now (out .entry)) 128 (countLine n) r (now (out .exit)) ⌝ }
     ensures { λ r. ⌜ 99 ≤ r ⌝ }
 {
-    put_single(out, 128, b"records ", n)
+    text::put_single(out, 128, b"records ", n)
 }
 
 // ---- the report's texts, at the end of the lent buffer
@@ -130,7 +73,7 @@ pub fn begin(out: &mut [u8; 128]) -> usize
     ensures { λ r. ⌜ r ≡ startOf heading ⌝ }
     ensures { λ _. ⌜ now (out .exit) ≡ withText heading (now (out .entry)) ⌝ }
 {
-    put(out, 128, b"carrier report 1\n")
+    text::put(out, 128, b"carrier report 1\n")
 }
 
 // The line that ends the report.
@@ -147,7 +90,7 @@ fn cut_short(n: u64, out: &mut [u8; 128]) -> usize
     ensures { λ _. ⌜ now (out .exit) ≡ withText (cutLine ++ countLine n) (now (out .entry)) ⌝ }
 {
     let t = put_count(out, n);
-    put(out, t, b"cut\n")
+    text::put(out, t, b"cut\n")
 }
 
 // That line behind that of record n, which is too long.
@@ -208,16 +151,6 @@ pub fn print(n: u64, head: &[u8], body: &[u8], out: &mut [u8; 128]) -> Step
 
 // ---- the text of a replay, likewise made from its end
 
-// A word and a number.
-fn put_field(out: &mut [u8], end: usize, word: &[u8], n: u32) -> usize
-    requires { ⌜ (length (now word) + 20 ≤ end) × (end ≤ length (now out)) ⌝ }
-    ensures { λ r. ⌜ Put (now (out .entry)) end (fieldText (now (word .entry)) n) r (now (out .exit)) ⌝ }
-    ensures { λ r. ⌜ end ≤ r + length (now (word .entry)) + 20 ⌝ }
-{
-    let t = put_number(out, end, n as u64);
-    put(out, t, word)
-}
-
 // A group, or, for 0, the packets without one.
 fn put_name(out: &mut [u8], end: usize, group: u32) -> usize
     requires { ⌜ (26 ≤ end) × (end ≤ length (now out)) ⌝ }
@@ -225,9 +158,9 @@ fn put_name(out: &mut [u8], end: usize, group: u32) -> usize
     ensures { λ r. ⌜ end ≤ r + 26 ⌝ }
 {
     if group == 0 {
-        return put(out, end, b"unlisted");
+        return text::put(out, end, b"unlisted");
     }
-    put_field(out, end, b"group ", group)
+    text::put_field(out, end, b"group ", group)
 }
 
 // The last DBN, or none.
@@ -237,16 +170,22 @@ fn put_last(out: &mut [u8], end: usize, seen: u32, last: u32) -> usize
     ensures { λ r. ⌜ end ≤ r + 26 ⌝ }
 {
     if seen == 0 {
-        return put(out, end, b" last none");
+        return text::put(out, end, b" last none");
     }
-    put_field(out, end, b" last ", last)
+    text::put_field(out, end, b" last ", last)
 }
 
-// A figure as a longer number; a goal then has its bound beside it.
-fn wide(n: u32) -> u64
-    ensures { λ r. ⌜ r ≡ n ⌝ }
+// How the line of a group ends, whose figures start at a place.
+fn put_tail(out: &mut [u8], end: usize, figures: &[u32; 110], at: usize) -> usize
+    requires { ⌜ (at ≤ 69) × (55 ≤ end) × (end ≤ length (now out)) ⌝ }
+    ensures { λ r. ⌜ Put (now (out .entry)) end (tailText (now (figures .entry)) at) r (now (out .exit)) ⌝ }
+    ensures { λ r. ⌜ end ≤ r + 55 ⌝ }
 {
-    n as u64
+    let seen = figures[at + 20];
+    let last = figures[at + 21];
+    let breaks = figures[at + 22];
+    let t = text::put_single(out, end, b" breaks ", text::wide(breaks));
+    put_last(out, t, seen, last)
 }
 
 // The line of a group.
@@ -258,13 +197,9 @@ fn put_group(out: &mut [u8], end: usize, figures: &[u32; 110], group: u32) -> us
     let at = 23 * (group as usize - 1);
     let read = figures[at];
     let lanes = figures[at + 1];
-    let seen = figures[at + 20];
-    let last = figures[at + 21];
-    let breaks = figures[at + 22];
-    let t = put_single(out, end, b" breaks ", wide(breaks));
-    let t = put_last(out, t, seen, last);
-    let t = put_field(out, t, b" lanes ", lanes);
-    let t = put_field(out, t, b" read ", read);
+    let t = put_tail(out, end, figures, at);
+    let t = text::put_field(out, t, b" lanes ", lanes);
+    let t = text::put_field(out, t, b" read ", read);
     put_name(out, t, group)
 }
 
@@ -289,7 +224,7 @@ fn put_refused(out: &mut [u8], end: usize, figures: &[u32; 110], group: u32, n: 
     if count == 0 {
         return end;
     }
-    let t = put_pair(out, end, b" refused ", n, count);
+    let t = text::put_pair(out, end, b" refused ", n, count);
     put_name(out, t, group)
 }
 
@@ -318,18 +253,17 @@ fn put_lines(out: &mut [u8], end: usize, figures: &[u32; 110], group: u32) -> us
     put_group(out, t, figures, group)
 }
 
-// How it ended.
 fn put_end(out: &mut [u8], end: usize, next: Next) -> usize
     requires { ⌜ (5 ≤ end) × (end ≤ length (now out)) ⌝ }
     ensures { λ r. ⌜ Put (now (out .entry)) end (endText next) r (now (out .exit)) ⌝ }
     ensures { λ r. ⌜ end ≤ r + 5 ⌝ }
 {
     match next {
-        Next::Going => put(out, end, b"end\n"),
-        Next::End => put(out, end, b"end\n"),
-        Next::Long => put(out, end, b"long\n"),
-        Next::Cut => put(out, end, b"cut\n"),
-        Next::Full => put(out, end, b"full\n"),
+        Next::Going => text::put(out, end, b"end\n"),
+        Next::End => text::put(out, end, b"end\n"),
+        Next::Long => text::put(out, end, b"long\n"),
+        Next::Cut => text::put(out, end, b"cut\n"),
+        Next::Full => text::put(out, end, b"full\n"),
     }
 }
 
@@ -338,7 +272,7 @@ pub fn begin_replay(out: &mut [u8; 8192]) -> usize
     ensures { λ r. ⌜ r ≡ startIn 8192 nightHeading ⌝ }
     ensures { λ _. ⌜ now (out .exit) ≡ withText nightHeading (now (out .entry)) ⌝ }
 {
-    put(out, 8192, b"packet replay 1\n")
+    text::put(out, 8192, b"packet replay 1\n")
 }
 
 // All other lines, of a replay that came to these figures and ended so.

@@ -1,9 +1,7 @@
 -- `report::put_group` meets its contract. Assumes nothing.
-use mathlib.Core.Path.{ap}
-use mathlib.Core.List.{_++_}
-use Rattle.report.specs.Text.{singleText}
-use Rattle.report.specs.Night.{breaksWord, groupLine}
-use Rattle.report.proofs.TextLaws.{put-then, put-as}
+use Rattle.report.specs.Night.{groupLine}
+use Rattle.report.specs.Inner.{tailText}
+use Rattle.report.proofs.TextLaws.{put-then}
 use borrow.Author.Needs.{needs}
 use Rattle.report.proofs.put_group.Statement.{statement}
 use Rattle.report.proofs.put_group.Tie as tie
@@ -29,44 +27,8 @@ mul-lanes c = search needs
 element-copy-out-lanes : tie.Need-element-copy-out-lanes
 element-copy-out-lanes c = search needs
 
-add-seen : tie.Need-add-seen
-add-seen c = search needs
-
-mul-seen : tie.Need-mul-seen
-mul-seen c = search needs
-
-element-copy-out-seen : tie.Need-element-copy-out-seen
-element-copy-out-seen c = search needs
-
-add-last : tie.Need-add-last
-add-last c = search needs
-
-mul-last : tie.Need-mul-last
-mul-last c = search needs
-
-element-copy-out-last : tie.Need-element-copy-out-last
-element-copy-out-last c = search needs
-
-add-breaks : tie.Need-add-breaks
-add-breaks c = search needs
-
-mul-breaks : tie.Need-mul-breaks
-mul-breaks c = search needs
-
-element-copy-out-breaks : tie.Need-element-copy-out-breaks
-element-copy-out-breaks c = search needs
-
-slice-aggregate-put-single : tie.Need-slice-aggregate-put-single
-slice-aggregate-put-single c = search needs
-
-wide-requires : tie.Need-wide-requires
-wide-requires c κs = search needs
-
-put-single-requires : tie.Need-put-single-requires
-put-single-requires c κs = search needs
-
-put-last-requires : tie.Need-put-last-requires
-put-last-requires c κs = search needs
+put-tail-requires : tie.Need-put-tail-requires
+put-tail-requires c κs = search needs
 
 slice-aggregate-put-field : tie.Need-slice-aggregate-put-field
 slice-aggregate-put-field c = search needs
@@ -87,15 +49,13 @@ same-length : tie.Need-same-length
 same-length c = search needs
 
 returns : tie.Need-returns
-unfolding groupLine
+unfolding groupLine tailText
 returns c =
     let name = c .before .before in
     let read = name .before .before .before .before in
     let lanes = read .before .before .before .before .before in
-    let last = lanes .before .before .before .before .before in
-    let breaks = last .before .before .before .before in
-    let end = put-as (ap (singleText breaksWord) (breaks .before .wide .ensures)) (breaks .put-single .ensures .0) in (
-      put-then (put-then (put-then (put-then end (last .put-last .ensures .0)) (lanes .put-field .ensures .0)) (read .put-field2 .ensures .0))
+    let tail = lanes .before .before .before .before .before in (
+      put-then (put-then (put-then (tail .put-tail .ensures .0) (lanes .put-field .ensures .0)) (read .put-field2 .ensures .0))
           (name .put-name .ensures .0),
       search needs,
     )
@@ -111,19 +71,7 @@ put-group-spec =
     add-lanes
     mul-lanes
     element-copy-out-lanes
-    add-seen
-    mul-seen
-    element-copy-out-seen
-    add-last
-    mul-last
-    element-copy-out-last
-    add-breaks
-    mul-breaks
-    element-copy-out-breaks
-    slice-aggregate-put-single
-    wide-requires
-    put-single-requires
-    put-last-requires
+    put-tail-requires
     slice-aggregate-put-field
     put-field-requires
     slice-aggregate-put-field-2

@@ -1,9 +1,9 @@
--- `report::put_number` meets its contract. Assumes nothing.
+-- `report::text::put_number` meets its contract. Assumes nothing.
 use Rattle.report.proofs.TextLaws.{Spelling, spelling-starts, spelled-out, spelled-last, spelled-on}
 use native.Mathlib.Omega.{arith}
 use borrow.Author.Needs.{needs}
-use Rattle.report.proofs.put_number.Statement.{statement}
-use Rattle.report.proofs.put_number.Tie as tie
+use Rattle.report.proofs.text.put_number.Statement.{statement}
+use Rattle.report.proofs.text.put_number.Tie as tie
 
 abbrev Inv-loop : tie.InvT-loop
 Inv-loop out₀ end n base left₀ rest₀ out left rest = Spelling out₀ end n base out left rest

@@ -1,4 +1,4 @@
--- `report::put` meets its contract. Assumes nothing.
+-- `report::text::put` meets its contract. Assumes nothing.
 use mathlib.Core.Path.{_≡_}
 use Prim.Native.Nat.{_-_, _≤_}
 use native.Mathlib.Omega.{arith}
@@ -6,8 +6,8 @@ use borrow.Author.Needs.{needs}
 use lib.ListN.{length}
 use lib.Seq.{paste, paste-zero}
 use Rattle.report.proofs.TextLaws.{paste-more, put-paste}
-use Rattle.report.proofs.put.Statement.{statement}
-use Rattle.report.proofs.put.Tie as tie
+use Rattle.report.proofs.text.put.Statement.{statement}
+use Rattle.report.proofs.text.put.Tie as tie
 
 abbrev Inv-loop : tie.InvT-loop
 Inv-loop out₀ end word from i₀ out i = (i ≤ length word) × (length out ≡ length out₀) × (out ≡ paste out₀ from word i)

@@ -1,10 +1,10 @@
--- `report::put_pair` meets its contract. Assumes nothing.
+-- `report::text::put_pair` meets its contract. Assumes nothing.
 use mathlib.Core.List.{append-assoc}
 use Rattle.report.specs.Text.{pairText}
 use Rattle.report.proofs.TextLaws.{put-then, put-as}
 use borrow.Author.Needs.{needs}
-use Rattle.report.proofs.put_pair.Statement.{statement}
-use Rattle.report.proofs.put_pair.Tie as tie
+use Rattle.report.proofs.text.put_pair.Statement.{statement}
+use Rattle.report.proofs.text.put_pair.Tie as tie
 
 put-octet-requires : tie.Need-put-octet-requires
 put-octet-requires c κs = search needs

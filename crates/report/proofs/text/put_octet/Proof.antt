@@ -1,8 +1,8 @@
--- `report::put_octet` meets its contract. Assumes nothing.
+-- `report::text::put_octet` meets its contract. Assumes nothing.
 use Rattle.report.proofs.TextLaws.{put-set}
 use borrow.Author.Needs.{needs}
-use Rattle.report.proofs.put_octet.Statement.{statement}
-use Rattle.report.proofs.put_octet.Tie as tie
+use Rattle.report.proofs.text.put_octet.Statement.{statement}
+use Rattle.report.proofs.text.put_octet.Tie as tie
 
 sub-at : tie.Need-sub-at
 sub-at c = search needs

@@ -1,10 +1,10 @@
--- `report::put_single` meets its contract. Assumes nothing.
+-- `report::text::put_single` meets its contract. Assumes nothing.
 use mathlib.Core.List.{append-assoc}
 use Rattle.report.specs.Text.{singleText}
 use Rattle.report.proofs.TextLaws.{put-then, put-as}
 use borrow.Author.Needs.{needs}
-use Rattle.report.proofs.put_single.Statement.{statement}
-use Rattle.report.proofs.put_single.Tie as tie
+use Rattle.report.proofs.text.put_single.Statement.{statement}
+use Rattle.report.proofs.text.put_single.Tie as tie
 
 put-octet-requires : tie.Need-put-octet-requires
 put-octet-requires c κs = search needs

@@ -1,9 +1,9 @@
--- `report::put_field` meets its contract. Assumes nothing.
+-- `report::text::put_field` meets its contract. Assumes nothing.
 use Rattle.report.specs.Night.{fieldText}
 use Rattle.report.proofs.TextLaws.{put-then}
 use borrow.Author.Needs.{needs}
-use Rattle.report.proofs.put_field.Statement.{statement}
-use Rattle.report.proofs.put_field.Tie as tie
+use Rattle.report.proofs.text.put_field.Statement.{statement}
+use Rattle.report.proofs.text.put_field.Tie as tie
 
 put-number-requires : tie.Need-put-number-requires
 put-number-requires c κs = search needs
