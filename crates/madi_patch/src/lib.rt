@@ -6,6 +6,7 @@ ghost use lib.ListN.{length};
 ghost use Rattle.bits.specs.Listed.{listed};
 ghost use Rattle.answer.specs.Answer.{verdict};
 ghost use Rattle.answer.specs.Said.{verdictSaid};
+ghost use Rattle.madi_code.specs.Frame.{cleared};
 ghost use Rattle.madi_patch.specs.Slot.{panel, verdictOctet, slotVerdict, slotOctet, slotWord};
 ghost use Rattle.madi_patch.specs.Patch.{asLong, patchAnswer, frameAfter, verdictsAfter};
 ghost use Rattle.madi_patch.specs.Leased.{leasedAnswer, leasedFrame, leasedVerdicts};
@@ -60,6 +61,13 @@ fn judge(
     SlotVerdict::BadParity
 }
 
+// A word with bits 0 and 1 cleared.
+fn cleared_word(w: u32) -> u32
+    ensures { λ r. ⌜ r ≡ cleared w ⌝ }
+{
+    w - w % 4
+}
+
 // The word of output slot o: that of its row's slot with bits 0 and 1 cleared, where it is carried; else silence.
 fn word(
     active: usize,
@@ -75,10 +83,7 @@ fn word(
     ensures { λ r. ⌜ r ≡ slotWord (panel active (now (ins .entry)) (now (outs .entry)) (now (rows .entry)) (now (frame .entry))) o ⌝ }
 {
     match v {
-        SlotVerdict::Carried => {
-            let w = frame[rows[o] as usize];
-            w - w % 4
-        }
+        SlotVerdict::Carried => cleared_word(frame[rows[o] as usize]),
         SlotVerdict::None => 0,
         SlotVerdict::Foreign => 0,
         SlotVerdict::BadParity => 0,
@@ -134,6 +139,29 @@ fn as_long(channels: usize, a: usize, b: usize, c: usize, d: usize, e: usize, f:
     true
 }
 
+// Whether every table and frame is as long as the channel count.
+fn are_as_long(
+    channels: usize,
+    ins: &[u8],
+    outs: &[u8],
+    rows: &[u32],
+    frame: &[u32],
+    out: usize,
+    verdicts: usize,
+) -> bool
+    ensures { λ r. ⌜ r ≡ asLong channels (length (now (ins .entry)) ∷ length (now (outs .entry)) ∷ length (now (rows .entry)) ∷ length (now (frame .entry)) ∷ out ∷ verdicts ∷ []) ⌝ }
+{
+    as_long(
+        channels,
+        ins.len(),
+        outs.len(),
+        rows.len(),
+        frame.len(),
+        out,
+        verdicts,
+    )
+}
+
 // Patches a frame: a row is carried only if both its slots belong to one tenant.
 pub fn patch(
     channels: u32,
@@ -153,15 +181,7 @@ pub fn patch(
         if 1 <= active {
             if active <= channels {
                 let n = channels as usize;
-                if as_long(
-                    n,
-                    ins.len(),
-                    outs.len(),
-                    rows.len(),
-                    frame.len(),
-                    out.len(),
-                    verdicts.len(),
-                ) {
+                if are_as_long(n, ins, outs, rows, frame, out.len(), verdicts.len()) {
                     fill(n, active as usize, ins, outs, rows, frame, out, verdicts);
                     return Verdict::Accepted;
                 }

@@ -45,15 +45,15 @@ module _ (c : tie.Then1) where
 is-counted-requires : tie.Need-is-counted-requires
 is-counted-requires c κs = search needs
 
-as-long-requires : tie.Need-as-long-requires
-as-long-requires c κs = search needs
+are-as-long-requires : tie.Need-are-as-long-requires
+are-as-long-requires c κs = search needs
 
 fill-requires : tie.Need-fill-requires
 fill-requires c κs =
     let f = c .before .before in
     let s = start (f .before .before .before .before) in
     lengths (s .args .channels) (lent s) (length (s .args .out .now)) (length (s .args .verdicts .now)) (f .before .before .if3 .taken)
-    (sym (f .before .as-long .ensures) ∙ f .if4 .taken)
+    (sym (f .before .are-as-long .ensures) ∙ f .if4 .taken)
 
 same-length : tie.Need-same-length
 same-length c = search needs
@@ -69,7 +69,7 @@ returns c =
     let t = f .before .before .before .before in
     let s = start t in
     let made = patched (s .args .channels) (lent s) in
-    let l = sym (f .before .as-long .ensures) ∙ f .if4 .taken in
+    let l = sym (f .before .are-as-long .ensures) ∙ f .if4 .taken in
     let long =
     lengths (s .args .channels) (lent s) (length (s .args .out .now)) (length (s .args .verdicts .now)) (f .before .before .if3 .taken) l in
     let ds = patchDemands (s .args .channels) (lent s) (length (s .args .out .now)) (length (s .args .verdicts .now)) in
@@ -86,7 +86,7 @@ returns-2 : tie.Need-returns-2
 returns-2 c =
     let t = c .before .before .before .before in
     refuses (start t) (later (counts t) (later (le-leb _ _ (c .before .before .before .if2 .taken))
-    (later (le-leb _ _ (c .before .before .if3 .taken)) (fails (sym (c .before .as-long .ensures) ∙ c .if4 .left)))))
+    (later (le-leb _ _ (c .before .before .if3 .taken)) (fails (sym (c .before .are-as-long .ensures) ∙ c .if4 .left)))))
 
 returns-3 : tie.Need-returns-3
 returns-3 c =
@@ -105,7 +105,7 @@ patch-spec =
     tie.close
     (tie.spec
     is-counted-requires
-    as-long-requires
+    are-as-long-requires
     fill-requires
     same-length
     same-length-2

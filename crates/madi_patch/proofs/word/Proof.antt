@@ -14,31 +14,37 @@ use Rattle.madi_patch.proofs.word.Tie as tie
 abbrev lent : tie.Start → Panel
 lent s = panel (s .args .active) (s .args .ins .now) (s .args .outs .now) (s .args .rows .now) (s .args .frame .now)
 
-in-active : (c : tie.After-enum-told) → getD (c .before .before .args .rows .now) (c .before .before .args .o) 0 < c .before .before .args .active
+-- all of it is known before the verdict is looked at
+abbrev start : tie.After-shared-slice-known4 → tie.Start
+start k = k .before .before .before .before
+
+in-active : (c : tie.After-enum-told)
+    → let s = start (c .before .before) in
+    getD (s .args .rows .now) (s .args .o) 0 < s .args .active
 in-active c =
-    let s = c .before .before in
+    let s = start (c .before .before) in
     carried-only (lent s) (s .args .o) (sym (s .pre .1) ∙ c .enum-told .given .1) .in-active
 
 enum-told : tie.Need-enum-told
 enum-told c = search needs
 
-mul-w : tie.Need-mul-w
-mul-w c = search needs
+mul-cleared-word : tie.Need-mul-cleared-word
+mul-cleared-word c = search needs
 
-shared-slice-read-w : tie.Need-shared-slice-read-w
-shared-slice-read-w c = search needs
+shared-slice-read-cleared-word : tie.Need-shared-slice-read-cleared-word
+shared-slice-read-cleared-word c = search needs
 
-cast-w : tie.Need-cast-w
-cast-w c = omega (arith, in-active (c .before))
+cast-cleared-word : tie.Need-cast-cleared-word
+cast-cleared-word c = omega (arith, in-active (c .before))
 
-mul-w-2 : tie.Need-mul-w-2
-mul-w-2 c = omega (arith, in-active (c .before))
+mul-cleared-word-2 : tie.Need-mul-cleared-word-2
+mul-cleared-word-2 c = omega (arith, in-active (c .before))
 
-shared-slice-read-w-2 : tie.Need-shared-slice-read-w-2
-shared-slice-read-w-2 c = omega (arith, in-active (c .before .before))
+shared-slice-read-cleared-word-2 : tie.Need-shared-slice-read-cleared-word-2
+shared-slice-read-cleared-word-2 c = omega (arith, in-active (c .before .before))
 
-sub-result : tie.Need-sub-result
-sub-result c = search needs
+cleared-word-requires : tie.Need-cleared-word-requires
+cleared-word-requires c κs = search needs
 
 enum-told-2 : tie.Need-enum-told-2
 enum-told-2 c = search needs
@@ -52,26 +58,27 @@ enum-told-4 c = search needs
 returns : tie.Need-returns
 unfolding slotWord
 returns c =
-    let k = c .before .before in
-    let s = k .before .before in
-    ap (λ (v : SlotVerdict). heard v (namedWord (lent s) (s .args .o))) (sym (k .enum-told .given .1) ∙ s .pre .1)
+    let k = c .before .before .before in
+    let s = start (k .before .before) in
+    c .cleared-word .ensures
+    ∙ ap (λ (v : SlotVerdict). heard v (namedWord (lent s) (s .args .o))) (sym (k .enum-told .given .1) ∙ s .pre .1)
 
 returns-2 : tie.Need-returns-2
 unfolding slotWord
 returns-2 c =
-    let s = c .before .before in
+    let s = start (c .before .before) in
     ap (λ (v : SlotVerdict). heard v (namedWord (lent s) (s .args .o))) (sym (c .enum-told2 .given .1) ∙ s .pre .1)
 
 returns-3 : tie.Need-returns-3
 unfolding slotWord
 returns-3 c =
-    let s = c .before .before in
+    let s = start (c .before .before) in
     ap (λ (v : SlotVerdict). heard v (namedWord (lent s) (s .args .o))) (sym (c .enum-told3 .given .1) ∙ s .pre .1)
 
 returns-4 : tie.Need-returns-4
 unfolding slotWord
 returns-4 c =
-    let s = c .before .before in
+    let s = start (c .before .before) in
     ap (λ (v : SlotVerdict). heard v (namedWord (lent s) (s .args .o))) (sym (c .enum-told4 .given .1) ∙ s .pre .1)
 
 pub word-spec : {M : Type 1} → statement M
@@ -79,12 +86,12 @@ word-spec =
     tie.close
     (tie.spec
     enum-told
-    mul-w
-    shared-slice-read-w
-    cast-w
-    mul-w-2
-    shared-slice-read-w-2
-    sub-result
+    mul-cleared-word
+    shared-slice-read-cleared-word
+    cast-cleared-word
+    mul-cleared-word-2
+    shared-slice-read-cleared-word-2
+    cleared-word-requires
     enum-told-2
     enum-told-3
     enum-told-4
