@@ -6,7 +6,7 @@ use Prim.Native.Nat.{ℕ, _+_, _-_, _^_, _≤_, _<_}
 use borrow.Author.Tests.{ne-eqb, lt-leb, le-leb}
 use lib.ListN.{set}
 use Rattle.replay.specs.Sheet.{lineStart, more, entryChanges, allFit, written}
-use Rattle.replay.specs.Inner.{ProperEntry, changed, refusedChanges, dataChanges}
+use Rattle.replay.specs.Inner.{ProperEntry, changed, refusedChanges, dataPlaces, dataChanges}
 use Rattle.replay.specs.declared.Entry.{Entry}
 use Rattle.replay.specs.declared.Entry.the-variants.{Passed, Data, Control, Refused}
 
@@ -33,6 +33,11 @@ module _ (cs : List (ℕ × ℕ)) (k v : ℕ) (sheet : List ℕ) {x : ℕ} {new 
 pub wrote-none : (sheet : List ℕ) → sheet ≡ written [] sheet
 unfolding written
 wrote-none sheet = refl
+
+-- those of a data packet, with the figures in another form
+pub wrote-as : (start dbn : ℕ) (sheet : List ℕ) {x y z a b c : ℕ} {new : List ℕ} → x ≡ a → y ≡ b → z ≡ c
+    → new ≡ written (dataPlaces start x y z dbn) sheet → new ≡ written (dataPlaces start a b c dbn) sheet
+wrote-as start dbn sheet p q r e = rw (p, q, r) at e
 
 -- ---- the changes of an entry, by what it is
 

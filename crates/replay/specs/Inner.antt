@@ -25,11 +25,13 @@ changed cs sheet = pick (allFit cs) (written cs sheet) sheet
 abbrev pub refusedChanges : List ℕ → ℕ → ℕ → ℕ → List (ℕ × ℕ)
 refusedChanges sheet a lanes b = more sheet a lanes ∷ more sheet b 1 ∷ []
 
+abbrev pub dataPlaces : ℕ → ℕ → ℕ → ℕ → ℕ → List (ℕ × ℕ)
+dataPlaces start read lanes breaks dbn = (start, read) ∷ (start + 1, lanes) ∷ (start + 22, breaks) ∷ (start + 20, 1) ∷ (start + 21, dbn) ∷ []
+
 abbrev pub dataChanges : List ℕ → ℕ → ℕ → ℕ → List (ℕ × ℕ)
 dataChanges sheet start lanes dbn =
-    more sheet start 1 ∷ more sheet (start + 1) lanes
-    ∷ more sheet (start + 22) (breakOf (getD sheet (start + 20) 0) (getD sheet (start + 21) 0) dbn)
-    ∷ (start + 20, 1) ∷ (start + 21, dbn) ∷ []
+    dataPlaces start (getD sheet start 0 + 1) (getD sheet (start + 1) 0 + lanes)
+    (getD sheet (start + 22) 0 + breakOf (getD sheet (start + 20) 0) (getD sheet (start + 21) 0) dbn) dbn
 
 -- it goes on; it is full
 abbrev pub goes : Next → Bool

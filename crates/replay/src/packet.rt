@@ -2,8 +2,9 @@
 // passed over.
 ghost use mathlib.Core.Path.{_≡_};
 ghost use lib.ListN.{length};
-ghost use Rattle.answer.specs.Answer.{Answer.accepted};
-ghost use Rattle.hd_read.specs.Read.{packetSaid};
+ghost use Rattle.answer.specs.Answer.{Answer.accepted, mapped};
+ghost use Rattle.answer.specs.Said.{numberSaid};
+ghost use Rattle.hd_read.specs.Read.{readAnswer, fieldsRead, packetSaid};
 ghost use Rattle.hd_control.specs.Read.{controlSaid};
 ghost use Rattle.replay.specs.Packet.{dataHeard, dataEntry, controlHeard, controlEntry, entryOf};
 use crate::Entry;
@@ -42,6 +43,23 @@ fn of_read(group: u32, lanes: u32, read: hd_read::ReadAnswer) -> Entry
 }
 
 // Repaired, and then read; the words that repair refuses stay as received.
+// What comes of a packet from its group, the answer of its repair and the words after it.
+fn heard(group: u32, lanes: NumberAnswer, words: &[u16]) -> Entry
+    ensures { λ r. ⌜ r ≡ dataHeard group (numberSaid lanes) (mapped fieldsRead (readAnswer (now (words .entry)) 4)) ⌝ }
+{
+    match lanes {
+        NumberAnswer::Refused { number, place } => Entry::Refused {
+            group,
+            lanes: 0,
+            number,
+        },
+        NumberAnswer::Number(count) => {
+            let mut bodies = [0u32; 4];
+            of_read(group, count, hd_read::read_packet(words, &mut bodies))
+        }
+    }
+}
+
 fn data(octets: &[u8]) -> Entry
     ensures { λ r. ⌜ r ≡ dataEntry (now (octets .entry)) ⌝ }
 {
@@ -58,17 +76,7 @@ fn data(octets: &[u8]) -> Entry
     records::fill_words(octets, &mut mended);
     let lanes = hd_repair::repair_packet(&words, &mut mended);
     let group = anc::group_of(mended[3], 0x2E7, 0x1E6, 0x1E5, 0x2E4);
-    match lanes {
-        NumberAnswer::Refused { number, place } => Entry::Refused {
-            group,
-            lanes: 0,
-            number,
-        },
-        NumberAnswer::Number(count) => {
-            let mut bodies = [0u32; 4];
-            of_read(group, count, hd_read::read_packet(&mended, &mut bodies))
-        }
-    }
+    heard(group, lanes, &mended)
 }
 
 // ---- a control packet

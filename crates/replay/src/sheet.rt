@@ -4,8 +4,9 @@ ghost use mathlib.Core.List.{_∷_, []};
 ghost use Prim.Native.Nat.{_+_, _≤_, _<_};
 ghost use lib.ListN.{length, getD, set};
 ghost use Rattle.anc.specs.Dbn.{nextDbn};
-ghost use Rattle.replay.specs.Sheet.{follows, breakOf, more, entryChanges, allFit, entryFits, groupSound, marksSound};
-ghost use Rattle.replay.specs.Inner.{ProperEntry, changed, refusedChanges, dataChanges};
+ghost use Rattle.replay.specs.Sheet.{follows, breakOf, more, entryChanges, allFit, written, entryFits, groupSound, marksSound};
+ghost use Rattle.replay.specs.declared.Entry.the-variants.{Refused};
+ghost use Rattle.replay.specs.Inner.{ProperEntry, changed, refusedChanges, dataPlaces, dataChanges};
 use crate::Entry;
 use answer::NumberAnswer;
 
@@ -94,6 +95,18 @@ fn enter_refused(sheet: &mut [u32], a: usize, lanes: u32, b: usize) -> bool
     true
 }
 
+// The figures of a data packet that was read, where all of them fit.
+fn put_data(sheet: &mut [u32], start: usize, x: u64, y: u64, z: u64, dbn: u32)
+    requires { ⌜ (start + 22 < length (now sheet)) × (x ≤ 4294967295) × (y ≤ 4294967295) × (z ≤ 4294967295) ⌝ }
+    ensures { λ _. ⌜ now (sheet .exit) ≡ written (dataPlaces start x y z dbn) (now (sheet .entry)) ⌝ }
+{
+    put(sheet, start, x);
+    put(sheet, start + 1, y);
+    put(sheet, start + 22, z);
+    put(sheet, start + 20, 1);
+    put(sheet, start + 21, dbn as u64);
+}
+
 // A data packet that was read, in the line that starts at a place.
 fn enter_data(sheet: &mut [u32], start: usize, lanes: u32, dbn: u32) -> bool
     requires { ⌜ (start + 22 < length (now sheet)) × (dbn ≤ 255) ⌝ }
@@ -113,12 +126,22 @@ fn enter_data(sheet: &mut [u32], start: usize, lanes: u32, dbn: u32) -> bool
     if MOST < z {
         return false;
     }
-    put(sheet, start, x);
-    put(sheet, start + 1, y);
-    put(sheet, start + 22, z);
-    put(sheet, start + 20, 1);
-    put(sheet, start + 21, dbn as u64);
+    put_data(sheet, start, x, y, z, dbn);
     true
+}
+
+// A packet that was refused, of a group or, for 0, of none.
+fn enter_unread(sheet: &mut [u32], group: u32, lanes: u32, number: u32) -> bool
+    requires { ⌜ (length (now sheet) ≡ 110) × (group ≤ 4) × (number < 18) ⌝ }
+    ensures { λ r. ⌜ r ≡ allFit (entryChanges (Refused group lanes number) (now (sheet .entry))) ⌝ }
+    ensures { λ _. ⌜ now (sheet .exit) ≡ changed (entryChanges (Refused group lanes number) (now (sheet .entry))) (now (sheet .entry)) ⌝ }
+{
+    let at = number as usize;
+    if group == 0 {
+        return enter_one(sheet, 92 + at);
+    }
+    let start = LINE * (group as usize - 1);
+    enter_refused(sheet, start + 1, lanes, start + 2 + at)
 }
 
 // Enters what has room, and says whether it has; else the sheet stays.
@@ -140,14 +163,7 @@ pub(crate) fn enter(sheet: &mut [u32], e: Entry) -> bool
             group,
             lanes,
             number,
-        } => {
-            let at = number as usize;
-            if group == 0 {
-                return enter_one(sheet, 92 + at);
-            }
-            let start = LINE * (group as usize - 1);
-            enter_refused(sheet, start + 1, lanes, start + 2 + at)
-        }
+        } => enter_unread(sheet, group, lanes, number),
     }
 }
 

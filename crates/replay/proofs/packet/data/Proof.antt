@@ -1,6 +1,5 @@
 -- `replay::packet::data` meets its contract. Assumes nothing.
-use mathlib.Core.Path.{refl, sym, ap, _∙_}
-use Rattle.answer.specs.Said.{numberSaid}
+use mathlib.Core.Path.{refl, _∙_}
 use Rattle.replay.proofs.Entries.{data-short, data-is}
 use borrow.Author.Needs.{needs}
 use Rattle.replay.proofs.packet.data.Statement.{statement}
@@ -42,51 +41,23 @@ array-read-group-of c = search needs
 group-of-requires : tie.Need-group-of-requires
 group-of-requires c κs = search needs
 
-enum-known-lanes : tie.Need-enum-known-lanes
-enum-known-lanes c = search needs
+slice-aggregate-heard : tie.Need-slice-aggregate-heard
+slice-aggregate-heard c = search needs
 
-enum-known-lanes-2 : tie.Need-enum-known-lanes-2
-enum-known-lanes-2 c = search needs
-
-slice-aggregate-read-packet : tie.Need-slice-aggregate-read-packet
-slice-aggregate-read-packet c = search needs
-
-slice-aggregate-read-packet-2 : tie.Need-slice-aggregate-read-packet-2
-slice-aggregate-read-packet-2 c = search needs
-
-read-packet-requires : tie.Need-read-packet-requires
-read-packet-requires c κs = search needs
-
-of-read-requires : tie.Need-of-read-requires
-of-read-requires c κs = search needs
+heard-requires : tie.Need-heard-requires
+heard-requires c κs = search needs
 
 returns-2 : tie.Need-returns-2
 returns-2 c =
-    let k = c .before in
-    let g = k .before .before in
+    let g = c .before .before in
     let p = g .before .before in
     let f = p .before .before .before .before in
     let n = f .before .before in
     let w = n .before .before in
     let z = w .before .before in
-    data-is _ (z .no-packet .result) (n .no-packet2 .result) (z .before .if1 .left) (z .no-packet .ensures) (n .no-packet2 .ensures)
-    (w .fill-words .ensures) (f .fill-words2 .ensures) (p .repair-packet .ensures .1)
-    (sym (ap numberSaid (k .lanes .given .1)) ∙ p .repair-packet .ensures .0) (g .group-of .ensures) refl
-
-returns-3 : tie.Need-returns-3
-returns-3 c =
-    let r = c .before .before in
-    let k = r .before .before .before .before in
-    let g = k .before .before in
-    let p = g .before .before in
-    let f = p .before .before .before .before in
-    let n = f .before .before in
-    let w = n .before .before in
-    let z = w .before .before in
-    c .of-read .ensures
+    c .heard .ensures
     ∙ data-is _ (z .no-packet .result) (n .no-packet2 .result) (z .before .if1 .left) (z .no-packet .ensures) (n .no-packet2 .ensures)
-    (w .fill-words .ensures) (f .fill-words2 .ensures) (p .repair-packet .ensures .1)
-    (sym (ap numberSaid (k .lanes2 .given .1)) ∙ p .repair-packet .ensures .0) (g .group-of .ensures) (r .read-packet .ensures .0)
+    (w .fill-words .ensures) (f .fill-words2 .ensures) (p .repair-packet .ensures .1) (p .repair-packet .ensures .0) (g .group-of .ensures) refl
 
 pub data-spec : {M : Type 1} → statement M
 data-spec =
@@ -104,11 +75,6 @@ data-spec =
     repair-packet-requires
     array-read-group-of
     group-of-requires
-    enum-known-lanes
-    enum-known-lanes-2
-    slice-aggregate-read-packet
-    slice-aggregate-read-packet-2
-    read-packet-requires
-    of-read-requires
-    returns-2
-    returns-3)
+    slice-aggregate-heard
+    heard-requires
+    returns-2)

@@ -1,7 +1,7 @@
 -- `replay::sheet::enter_data` meets its contract. Assumes nothing.
-use mathlib.Core.Path.{refl, ap, _∙_}
+use mathlib.Core.Path.{ap, _∙_}
 use native.Mathlib.Omega.{arith}
-use Rattle.replay.proofs.Changes.{no-fit, one-fits, none-left, left-out, made, wrote, wrote-none}
+use Rattle.replay.proofs.Changes.{no-fit, one-fits, none-left, left-out, made, wrote-as}
 use Prim.Native.Nat.{ℕ, _+_}
 use lib.ListN.{getD}
 use borrow.Author.Needs.{needs}
@@ -84,44 +84,16 @@ returns-3 c =
     left-out _ _ (one-fits _ _ _ (omega (arith, w .with-more .ensures, e .if1 .left)) ∙ one-fits _ _ _ (omega (arith, v .with-more2 .ensures, f .if2 .left))
     ∙ no-fit _ _ _ (omega (arith, (z .with-more3 .ensures ∙ ap (λ (n : ℕ). getD (s .sheet .now) (s .start + 22) 0 + n) (b .break-of .ensures .0)), c .if3 .taken)))
 
-put-requires : tie.Need-put-requires
-put-requires c κs = search needs
-
-add-put : tie.Need-add-put
-add-put c = search needs
-
-put-requires-2 : tie.Need-put-requires-2
-put-requires-2 c κs = search needs
-
-add-put-2 : tie.Need-add-put-2
-add-put-2 c = search needs
-
-put-requires-3 : tie.Need-put-requires-3
-put-requires-3 c κs = search needs
-
-add-put-3 : tie.Need-add-put-3
-add-put-3 c = search needs
-
-put-requires-4 : tie.Need-put-requires-4
-put-requires-4 c κs = search needs
-
-add-put-4 : tie.Need-add-put-4
-add-put-4 c = search needs
-
-put-requires-5 : tie.Need-put-requires-5
-put-requires-5 c κs = search needs
+put-data-requires : tie.Need-put-data-requires
+put-data-requires c κs = search needs
 
 same-length-4 : tie.Need-same-length-4
 same-length-4 c = search needs
 
 returns-4 : tie.Need-returns-4
 returns-4 c =
-    let p5 = c .before .before in
-    let p4 = p5 .before .before .before .before in
-    let p3 = p4 .before .before .before .before in
-    let p2 = p3 .before .before .before .before in
-    let p1 = p2 .before .before .before .before in
-    let g = p1 .before .before in
+    let p = c .before .before in
+    let g = p .before .before in
     let f = g .before in
     let e = f .before in
     let z = e .before in
@@ -129,11 +101,12 @@ returns-4 c =
     let v = b .before .before .before in
     let w = v .before .before in
     let s = w .before .before .before .args in
+    let breaks = z .with-more3 .ensures ∙ ap (λ (n : ℕ). getD (s .sheet .now) (s .start + 22) 0 + n) (b .break-of .ensures .0) in
     made _ _
     (one-fits _ _ _ (omega (arith, w .with-more .ensures, e .if1 .left)) ∙ one-fits _ _ _ (omega (arith, v .with-more2 .ensures, f .if2 .left))
-    ∙ one-fits _ _ _ (omega (arith, (z .with-more3 .ensures ∙ ap (λ (n : ℕ). getD (s .sheet .now) (s .start + 22) 0 + n) (b .break-of .ensures .0)), g .if3 .left)) ∙ one-fits _ _ _ (omega arith) ∙ one-fits _ _ _ (omega (arith, w .before .before .before .pre .1)) ∙ none-left)
-    (wrote _ _ _ _ (p1 .put .ensures) (w .with-more .ensures) (wrote _ _ _ _ (p2 .put2 .ensures) (v .with-more2 .ensures)
-    (wrote _ _ _ _ (p3 .put3 .ensures) (z .with-more3 .ensures ∙ ap (λ (n : ℕ). getD (s .sheet .now) (s .start + 22) 0 + n) (b .break-of .ensures .0)) (wrote _ _ _ _ (p4 .put4 .ensures) refl (wrote _ _ _ _ (p5 .put5 .ensures) refl (wrote-none _))))))
+    ∙ one-fits _ _ _ (omega (arith, breaks, g .if3 .left)) ∙ one-fits _ _ _ (omega arith)
+    ∙ one-fits _ _ _ (omega (arith, w .before .before .before .pre .1)) ∙ none-left)
+    (wrote-as (s .start) (s .dbn) (s .sheet .now) (w .with-more .ensures) (v .with-more2 .ensures) breaks (p .put-data .ensures))
 
 pub enter-data-spec : {M : Type 1} → statement M
 enter-data-spec =
@@ -157,14 +130,6 @@ enter-data-spec =
     returns-2
     same-length-3
     returns-3
-    put-requires
-    add-put
-    put-requires-2
-    add-put-2
-    put-requires-3
-    add-put-3
-    put-requires-4
-    add-put-4
-    put-requires-5
+    put-data-requires
     same-length-4
     returns-4)
