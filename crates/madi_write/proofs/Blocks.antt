@@ -1,7 +1,7 @@
 -- A frame's octets in blocks of five: the levels of a block, the octets of its levels, what is left after the last
 -- whole block. Assumes nothing.
 use mathlib.Core.Path.{_≡_, sym, ap, ap₂, _∙_}
-use mathlib.Core.List.{List, _∷_}
+use mathlib.Core.List.{List}
 use Prim.Native.Nat.{ℕ, suc, _+_, _*_, _-_, _/_, _%_, _^_, _≤_, _<_}
 use native.Mathlib.Nat.{add-zero}
 use native.Mathlib.Omega.{arith}
@@ -18,7 +18,7 @@ use Rattle.line.specs.Nrzi.{levels}
 use Rattle.line.proofs.NrziLaws.{length-levels, levels-window, before-later, before-first}
 use Rattle.madi_code.specs.Frame.{boundary}
 use Rattle.madi_write.specs.Writer.{frameRow, needed, frameOctets}
-use Rattle.madi_write.specs.Inner.{commandsNumber, blockOf, Levels}
+use Rattle.madi_write.specs.Inner.{commandsNumber, blockOf, Levels, sentLevels}
 use Rattle.madi_write.proofs.Frames.{length-frame, frame-commands, block-window}
 
 -- ---- by doubling
@@ -37,9 +37,8 @@ levels-undone x y h e =
 -- ---- the level before a place, and the levels from there on
 
 module _ (channels : ℕ) (words commands : List ℕ) (level : ℕ) where
-  -- the level before bit k of the frame, for k from 0 on
-  abbrev pub sent : Row
-  sent = odd level ∷ levels (odd level) (frameRow channels words commands)
+  abbrev sent : Row
+  sent = sentLevels channels words commands level
 
   pub first-level : level ≤ 1 → level ≡ window sent 0 1
   first-level h = sym (sym (before-first (odd level) (levels (odd level) (frameRow channels words commands)) 0) ∙ first)

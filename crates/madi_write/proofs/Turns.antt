@@ -1,10 +1,13 @@
 -- Block after block of a frame onto a line, whatever the block is. Assumes nothing.
 use mathlib.Core.Path.{_≡_, refl, sym, ap, _∙_}
-use mathlib.Core.List.{List}
-use Prim.Native.Nat.{ℕ, zero, suc, _+_, _-_, _*_, _%_, _^_, _≤_, _<_}
+use mathlib.Core.List.{List, _++_}
+use Prim.Native.Nat.{ℕ, zero, suc, _+_, _-_, _*_, _/_, _%_, _^_, _≤_, _<_}
+use native.Mathlib.Nat.{mod-eq-of-lt}
 use native.Mathlib.Omega.{arith}
 use borrow.Author.Tests.{lt-ltb, le-ltb}
-use lib.ListN.{length}
+use lib.ListN.{length, drop}
+use lib.Seq.{take-all}
+use lib.Pow.{pow-mono, shl-exact, shl-lt}
 use Rattle.bits.specs.Row.{big}
 use Rattle.bits.specs.Window.{window}
 use Rattle.bits.proofs.Filling.{over}
@@ -13,9 +16,9 @@ use Rattle.madi_code.specs.Frame.{boundary}
 use Rattle.madi_code.specs.Channels.{channelRow}
 use Rattle.madi_code.proofs.ChannelLaws.{idle-bits}
 use Rattle.madi_write.specs.Writer.{frameRow, needed, frameOctets}
-use Rattle.madi_write.specs.Inner.{sentWord, commandsNumber, blockOf, Levels, Laid}
+use Rattle.madi_write.specs.Inner.{sentWord, commandsNumber, blockOf, Levels, Stored, Laid, sentLevels, LevelAt, Passed, Ended}
 use Rattle.madi_write.proofs.Frames.{block-window}
-use Rattle.madi_write.proofs.Blocks.{sent, block-levels, next-level, length-octets, octet-right}
+use Rattle.madi_write.proofs.Blocks.{block-levels, next-level, tail-levels, length-octets, octet-right}
 
 -- after an inactive channel the level is what it was before it: each of its groups changes it four times
 pub idle-level : (last y : ℕ) → last < 2 → Levels (last * 2 ^ 40 + big (channelRow 0)) y → y % 2 ≡ last
@@ -25,21 +28,30 @@ idle-level (suc zero) y h f =
     ap (λ (z : ℕ). z % 2) (f 0b10101101011010110101101011010110101101011 (omega arith) (ap (λ (v : ℕ). 1 * 2 ^ 40 + v) (sym idle-bits)))
 idle-level (suc (suc l)) y h f = absurd (omega arith)
 
+-- a level before up to thirty bits
+pub level-moved : (last k : ℕ) → last < 2 → k < 4 → last * 2 ^ (10 * k) % 2 ^ 64 ≡ last * 2 ^ (10 * k)
+level-moved last k l h = shl-exact {a = last} 1 (10 * k) 64 (omega arith) (omega arith)
+
+pub level-fits : (last k x : ℕ) → last < 2 → k < 4 → x < 2 ^ 40 → last * 2 ^ (10 * k) % 2 ^ 64 + x < 2 ^ 64
+level-fits last k x l h small =
+    omega (arith, level-moved last k l h, shl-lt {a = last} 1 (10 * k) (omega arith), pow-mono {i = 1 + 10 * k} {j = 31} (omega arith))
+
 module _ (channels : ℕ) (words commands : List ℕ) (level : ℕ) where
   abbrev new : List ℕ
   new = frameOctets channels words commands level
 
-  -- a line that was the frame's up to block b₀, wherever it is from, is so up to block b, and `last` is the level there
-  abbrev pub Passed : List ℕ → ℕ → List ℕ → ℕ → ℕ → Type 0
-  Passed line₀ b₀ line last b =
-      (length line ≡ length line₀) × (last ≡ window (sent channels words commands level) (40 * b) 1)
-      × ((old : List ℕ) → needed channels (length commands) ≤ length old → line₀ ≡ over (5 * b₀) new old → line ≡ over (5 * b) new old)
-
-  pub passed-first : (line : List ℕ) (last b : ℕ) → last ≡ window (sent channels words commands level) (40 * b) 1 → Passed line b line last b
+  pub passed-first : (line : List ℕ) (last b : ℕ) → LevelAt channels words commands level last b → Passed channels words commands level line b line last b
   passed-first line last b e = (refl, e, λ old h q. q)
 
-  pub passed-lt : (last b : ℕ) → last ≡ window (sent channels words commands level) (40 * b) 1 → last < 2
-  passed-lt last b e = omega (arith, e, window-lt (sent channels words commands level) (40 * b) 1)
+  -- the parts of a frame one after another
+  pub all-passed : (line line₁ line₂ line₃ line₄ : List ℕ) (last end b₁ b₂ : ℕ) → needed channels (length commands) ≤ length line
+      → Passed channels words commands level line 0 line₁ last b₁ → Passed channels words commands level line₁ b₁ line₂ last b₂
+      → Passed channels words commands level line₂ b₂ line₃ end (channels + length commands / 4) → Ended channels words commands level line₃ line₄
+      → line₄ ≡ new ++ drop (needed channels (length commands)) line
+  all-passed line line₁ line₂ line₃ line₄ last end b₁ b₂ h p q r e = e line h (r .2 line h (q .2 line h (p .2 line h refl)))
+
+  pub passed-lt : (last b : ℕ) → LevelAt channels words commands level last b → last < 2
+  passed-lt last b e = omega (arith, e, window-lt (sentLevels channels words commands level) (40 * b) 1)
 
   module _ (most : length words ≤ channels) where
     pub block-lt : (b x : ℕ) → 40 * b + 40 ≤ boundary channels (length commands) → x ≡ blockOf channels words commands b → x < 2 ^ 40
@@ -48,10 +60,10 @@ module _ (channels : ℕ) (words commands : List ℕ) (level : ℕ) where
 
     pub passed-next : (line₀ : List ℕ) (b₀ : ℕ) (line : List ℕ) (last b x r : ℕ) (line′ : List ℕ) → 40 * b + 40 ≤ boundary channels (length commands)
         → length line′ ≡ length line → x ≡ blockOf channels words commands b → Laid b last x r line line′
-        → Passed line₀ b₀ line last b → Passed line₀ b₀ line′ r (b + 1)
+        → Passed channels words commands level line₀ b₀ line last b → Passed channels words commands level line₀ b₀ line′ r (b + 1)
     passed-next line₀ b₀ line last b x r line′ fits same ex laid p =
         let y = laid .0 in
-        let e : y ≡ window (sent channels words commands level) (40 * b) 41 =
+        let e : y ≡ window (sentLevels channels words commands level) (40 * b) 41 =
         block-levels channels words commands level most b last x y fits (p .1) ex (laid .1) in
         let k : 5 * b + 5 ≡ 5 * (b + 1) = omega arith in
         let n : length new ≡ needed channels (length commands) = length-octets channels words commands level most in (
@@ -72,3 +84,21 @@ module _ (channels : ℕ) (words commands : List ℕ) (level : ℕ) where
     pub command-block : (b : ℕ) → channels ≤ b → commandsNumber commands (4 * (b - channels)) 4 ≡ blockOf channels words commands b
     unfolding blockOf
     command-block b h = rw (le-ltb b channels h)
+
+    -- the commands that are left, after the level before them
+    pub left-ended : (line line′ : List ℕ) (last y : ℕ) → LevelAt channels words commands level last (channels + length commands / 4)
+        → Levels (last * 2 ^ (10 * (length commands % 4)) + commandsNumber commands (4 * (length commands / 4)) (length commands % 4)) y
+        → Stored (5 * (channels + length commands / 4)) (y * 2 ^ (40 - 10 * (length commands % 4)) % 2 ^ 64) ((10 * (length commands % 4) + 7) / 8) line line′
+        → Ended channels words commands level line line′
+    left-ended line line′ last y el f stored old h q =
+        let k : ℕ = length commands % 4 in
+        let whole : ℕ = channels + length commands / 4 in
+        let all : ℕ = needed channels (length commands) in
+        let n : length new ≡ all = length-octets channels words commands level most in
+        let e : y * 2 ^ (40 - 10 * k) ≡ window (sentLevels channels words commands level) (40 * whole) 41 =
+        tail-levels channels words commands level most whole (4 * (length commands / 4)) k last y (omega arith) (omega arith) (omega arith) el f in
+        let small : y * 2 ^ (40 - 10 * k) < 2 ^ 64 = omega (arith, e, window-lt (sentLevels channels words commands level) (40 * whole) 41) in
+        let w : 5 * whole + (10 * k + 7) / 8 ≡ all = omega arith in
+        stored new old (omega (arith, n, w)) (omega (arith, w))
+        (λ i hi. octet-right channels words commands level most whole i (y * 2 ^ (40 - 10 * k) % 2 ^ 64) (omega arith) (omega arith) (mod-eq-of-lt small ∙ e)) q
+        ∙ ap (λ (m : ℕ). over m new old) w ∙ ap (λ (l : List ℕ). l ++ drop all old) (take-all all new (omega (arith, n)))

@@ -2,15 +2,18 @@
 use Prim.Native.Nat.{ℕ, zero, suc, _+_, _-_, _*_, _/_, _%_, _^_, _≤_, _<_}
 use mathlib.Core.Path.{_≡_}
 use mathlib.Core.Bool.{true}
-use mathlib.Core.List.{List, _++_}
+use mathlib.Core.List.{List, _∷_, _++_}
 use lib.Bits.{bitXor}
 use lib.Dec.{eqb, ltb}
 use lib.ListN.{length, getD, take, drop}
 use Rattle.bits.specs.Pick.{pick}
-use Rattle.bits.specs.Row.{big}
+use Rattle.bits.specs.Row.{Row, odd, big}
+use Rattle.bits.specs.Window.{window}
 use Rattle.subframe.specs.Body.{evenBody}
+use Rattle.line.specs.Nrzi.{levels}
 use Rattle.madi_code.specs.Groups.{commandCode}
 use Rattle.madi_code.specs.Channels.{channelRow}
+use Rattle.madi_write.specs.Writer.{frameRow, needed, frameOctets}
 
 -- the word of channel b as it is sent
 unfoldable pub sentWord : List ℕ → ℕ → ℕ
@@ -39,6 +42,29 @@ Stored j y n at-entry at-exit =
 -- 40 bits x after a level are laid as block b, and r is the level that they leave
 abbrev pub Laid : ℕ → ℕ → ℕ → ℕ → List ℕ → List ℕ → Type 0
 Laid b last x r at-entry at-exit = (y : ℕ) × Levels (last * 2 ^ 40 + x) y × (r ≡ y % 2) × Stored (5 * b) y 5 at-entry at-exit
+
+-- the level before each bit of the frame, from the first on
+abbrev pub sentLevels : ℕ → List ℕ → List ℕ → ℕ → Row
+sentLevels channels words commands level = odd level ∷ levels (odd level) (frameRow channels words commands)
+
+-- this is the level before block b
+abbrev pub LevelAt : ℕ → List ℕ → List ℕ → ℕ → ℕ → ℕ → Type 0
+LevelAt channels words commands level last b = last ≡ window (sentLevels channels words commands level) (40 * b) 1
+
+-- a line that was the frame's up to block b₀, wherever it is from, is so up to block b, and `last` is the level there
+abbrev pub Passed : ℕ → List ℕ → List ℕ → ℕ → List ℕ → ℕ → List ℕ → ℕ → ℕ → Type 0
+Passed channels words commands level line₀ b₀ line last b =
+    (length line ≡ length line₀) × LevelAt channels words commands level last b
+    × ((old : List ℕ) → needed channels (length commands) ≤ length old
+    → line₀ ≡ take (5 * b₀) (frameOctets channels words commands level) ++ drop (5 * b₀) old
+    → line ≡ take (5 * b) (frameOctets channels words commands level) ++ drop (5 * b) old)
+
+-- a line that was the frame's up to its last whole block is all of the frame
+abbrev pub Ended : ℕ → List ℕ → List ℕ → ℕ → List ℕ → List ℕ → Type 0
+Ended channels words commands level line₀ line =
+    (old : List ℕ) → needed channels (length commands) ≤ length old
+    → line₀ ≡ take (5 * (channels + length commands / 4)) (frameOctets channels words commands level) ++ drop (5 * (channels + length commands / 4)) old
+    → line ≡ frameOctets channels words commands level ++ drop (needed channels (length commands)) old
 
 -- no word breaks a rule
 abbrev pub Sound : List ℕ → Type 0

@@ -1,16 +1,17 @@
 // The MADI writer: a block of 40 bits, its levels, its octets; the checks; a frame.
 ghost use mathlib.Core.Path.{_≡_};
 ghost use mathlib.Core.Bool.{true};
-ghost use mathlib.Core.List.{_++_};
-ghost use Prim.Native.Nat.{ℕ, _+_, _*_, _%_, _^_, _<_, _≤_};
+ghost use mathlib.Core.List.{List, _++_};
+ghost use Prim.Native.Nat.{ℕ, _+_, _*_, _/_, _%_, _^_, _<_, _≤_};
 ghost use lib.ListN.{length, getD, drop};
 ghost use Rattle.answer.specs.Answer.{accepted, verdict, rewritten};
 ghost use Rattle.answer.specs.Demand.{provided};
 ghost use Rattle.answer.specs.Said.{verdictSaid};
 ghost use Rattle.madi_code.specs.Frame.{numbered};
 ghost use Rattle.madi_code.specs.Groups.{commandCodes};
+ghost use Rattle.madi_code.specs.Inner.{groupTable};
 ghost use Rattle.madi_write.specs.Writer.{needed, frameOctets, isList, channelWordDemands, writeDemands, frameWritten};
-ghost use Rattle.madi_write.specs.Inner.{sentWord, commandsNumber, Levels, Stored, Laid, Sound};
+ghost use Rattle.madi_write.specs.Inner.{sentWord, commandsNumber, Levels, Stored, Laid, LevelAt, Passed, Ended, Sound};
 use answer::Verdict;
 
 // The word of channel b as it is sent: the given ones are active, and bit 0 is set on channel 0; the others are all
@@ -90,39 +91,82 @@ fn lay(line: &mut [u8], b: usize, last: u64, x: u64) -> u64
     y % 2
 }
 
+// The active channels, into the front of line after a level; gives the level that they leave.
+fn lay_active(table: &[u8; 16], words: &[u32], level: u64, line: &mut [u8]) -> u64
+    requires { ⌜ (now table ≡ groupTable) × (level ≤ 1) × (length (now words) ≤ 64) × ((k : ℕ) → getD (now words) k 0 % 4 ≡ 0) × (5 * length (now words) ≤ length (now line)) ⌝ }
+    ensures { λ r. ⌜ ((channels : ℕ) (commands : List ℕ) → length (now (words .entry)) ≤ channels → Passed channels (now (words .entry)) commands level (now (line .entry)) 0 (now (line .exit)) r (length (now (words .entry)))) ⌝ }
+{
+    let mut last = level;
+    let mut b: usize = 0;
+    while b < words.len() {
+        let x = madi_code::bits_by(table, sent_word(words, b));
+        last = lay(line, b, last, x);
+        b += 1;
+    }
+    last
+}
+
+// The inactive channels, behind the active ones. Each leaves the level as it was, so all of them are the same five octets.
+fn lay_inactive(table: &[u8; 16], words: &[u32], channels: usize, last: u64, line: &mut [u8])
+    requires { ⌜ (now table ≡ groupTable) × (last < 2) × (length (now words) ≤ channels) × (channels ≤ 64) × (5 * channels ≤ length (now line)) ⌝ }
+    ensures { λ r. ⌜ ((commands : List ℕ) (level : ℕ) → LevelAt channels (now (words .entry)) commands level last (length (now (words .entry))) → Passed channels (now (words .entry)) commands level (now (line .entry)) (length (now (words .entry))) (now (line .exit)) last channels) ⌝ }
+{
+    let idle = madi_code::bits_by(table, 0);
+    let y = levels_after(last * 0x100_0000_0000 + idle);
+    let mut b = words.len();
+    while b < channels {
+        store_five(line, 5 * b, y);
+        b += 1;
+    }
+}
+
+// The commands by fours, behind the channels; gives the level that they leave. The table is that of commands.
+fn lay_fours(
+    codes: &[u16; 16],
+    commands: &[u8],
+    channels: usize,
+    level: u64,
+    line: &mut [u8],
+) -> u64
+    requires { ⌜ (now codes ≡ commandCodes) × (level < 2) × (channels ≤ 64) × (length (now commands) ≤ 255) × (numbered (now commands) ≡ true) × (5 * (channels + length (now commands) / 4) ≤ length (now line)) ⌝ }
+    ensures { λ r. ⌜ ((words : List ℕ) (first : ℕ) → length words ≤ channels → LevelAt channels words (now (commands .entry)) first level channels → Passed channels words (now (commands .entry)) first (now (line .entry)) channels (now (line .exit)) r (channels + length (now (commands .entry)) / 4)) ⌝ }
+{
+    let whole = channels + commands.len() / 4;
+    let mut last = level;
+    let mut b = channels;
+    while b < whole {
+        let x = commands_from(codes, commands, b - channels, 4);
+        last = lay(line, b, last, x);
+        b += 1;
+    }
+    last
+}
+
+// The commands that are left, behind the fours, with zeros behind them up to an octet's end.
+fn lay_left(codes: &[u16; 16], commands: &[u8], channels: usize, last: u64, line: &mut [u8])
+    requires { ⌜ (now codes ≡ commandCodes) × (last < 2) × (channels ≤ 64) × (length (now commands) ≤ 255) × (numbered (now commands) ≡ true) × (needed channels (length (now commands)) ≤ length (now line)) ⌝ }
+    ensures { λ r. ⌜ ((words : List ℕ) (level : ℕ) → length words ≤ channels → LevelAt channels words (now (commands .entry)) level last (channels + length (now (commands .entry)) / 4) → Ended channels words (now (commands .entry)) level (now (line .entry)) (now (line .exit))) ⌝ }
+{
+    let fours = commands.len() / 4;
+    let whole = channels + fours;
+    let k = commands.len() % 4;
+    let x = commands_from(codes, commands, fours, k);
+    let y = levels_after((last << (10 * k)) + x);
+    store(line, 5 * whole, y << (40 - 10 * k), (10 * k + 7) / 8);
+}
+
 // The octets of a frame, into the front of line: blocks of five octets, the active channels, the inactive ones and then
-// commands by fours, each in a loop of its own; then the commands that are left. An inactive channel leaves the level as
-// it was, so all of them are the same five octets.
+// commands by fours; then the commands that are left.
 fn fill(channels: usize, words: &[u32], commands: &[u8], level: u32, line: &mut [u8])
     requires { ⌜ (level ≤ 1) × (channels ≤ 64) × (length (now words) ≤ channels) × (length (now commands) ≤ 255) × (numbered (now commands) ≡ true) × ((k : ℕ) → getD (now words) k 0 % 4 ≡ 0) × (needed channels (length (now commands)) ≤ length (now line)) ⌝ }
     ensures { λ r. ⌜ now (line .exit) ≡ frameOctets channels (now (words .entry)) (now (commands .entry)) level ++ drop (needed channels (length (now (commands .entry)))) (now (line .entry)) ⌝ }
 {
     let table = madi_code::groups();
     let codes = madi_code::command_codes();
-    let idle = madi_code::bits_by(&table, 0);
-    let fours = commands.len() / 4;
-    let whole = channels + fours;
-    let mut last = level as u64;
-    let mut b: usize = 0;
-    while b < words.len() {
-        let x = madi_code::bits_by(&table, sent_word(words, b));
-        last = lay(line, b, last, x);
-        b += 1;
-    }
-    let rest = levels_after(last * 0x100_0000_0000 + idle);
-    while b < channels {
-        store_five(line, 5 * b, rest);
-        b += 1;
-    }
-    while b < whole {
-        let x = commands_from(&codes, commands, b - channels, 4);
-        last = lay(line, b, last, x);
-        b += 1;
-    }
-    let k = commands.len() % 4;
-    let x = commands_from(&codes, commands, fours, k);
-    let y = levels_after((last << (10 * k)) + x);
-    store(line, 5 * whole, y << (40 - 10 * k), (10 * k + 7) / 8);
+    let last = lay_active(&table, words, level as u64, line);
+    lay_inactive(&table, words, channels, last, line);
+    let end = lay_fours(&codes, commands, channels, last, line);
+    lay_left(&codes, commands, channels, end, line);
 }
 
 // Whether every word passes both checks.
