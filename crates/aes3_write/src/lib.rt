@@ -74,13 +74,13 @@ fn three_entries(table: &[u16], code: u32) -> u64
 }
 
 // The 56 symbols of a body after level 0, the first highest, from a sample's 24 bits and from V, U and C: three entries of
-// the table, and slots 28 to 31 by the first eight symbols of an entry.
+// the table, and slots 28 to 31 by the first eight symbols of an entry. That one waits for P, so it is looked up first.
 fn slots_word(table: &[u16], inverting: &[u64], code: u32, flags: u32) -> u64
     requires { ⌜ (now table ≡ biphaseTable) × (now inverting ≡ invertersTable) × (code < 2 ^ 24) × (flags < 8) ⌝ }
     ensures { λ r. ⌜ (r ≡ big (biphase false (slots (bodyWith code flags)))) × (r < 2 ^ 56) ⌝ }
 {
-    let u = three_entries(table, code);
     let d = entry(table, last_slots(code, flags));
+    let u = three_entries(table, code);
     let v = inverters_of(inverting, u);
     (u * 256 + d / 256) ^ v
 }

@@ -15,36 +15,36 @@ use Rattle.aes3_write.proofs.Writing.{slots-lt, word-of-body}
 use Rattle.aes3_write.proofs.slots_word.Statement.{statement}
 use Rattle.aes3_write.proofs.slots_word.Tie as tie
 
-three-entries-requires : tie.Need-three-entries-requires
-three-entries-requires c κs = search needs
-
 last-slots-requires : tie.Need-last-slots-requires
 last-slots-requires c κs = search needs
 
 entry-requires : tie.Need-entry-requires
 entry-requires c κs = search needs
 
+three-entries-requires : tie.Need-three-entries-requires
+three-entries-requires c κs = search needs
+
 inverters-of-requires : tie.Need-inverters-of-requires
 inverters-of-requires c κs =
-    let h = c .before .before .three-entries .ensures in
+    let h = c .three-entries .ensures in
     (c .before .before .before .before .before .pre .1, omega (arith, h .together, h .first, h .second, h .third))
 
 mul-result : tie.Need-mul-result
 mul-result c =
-    let h = c .before .before .before .three-entries .ensures in
+    let h = c .before .three-entries .ensures in
     omega (arith, h .together, h .first, h .second, h .third)
 
 add-result : tie.Need-add-result
 add-result c =
-    let h = c .before .before .before .three-entries .ensures in
-    omega (arith, h .together, h .first, h .second, h .third, c .before .entry .ensures .1)
+    let h = c .before .three-entries .ensures in
+    omega (arith, h .together, h .first, h .second, h .third, c .before .before .entry .ensures .1)
 
 returns : tie.Need-returns
 returns c =
-    let fourth = c .before in
+    let three = c .before in
+    let fourth = three .before in
     let last = fourth .before in
-    let three = last .before in
-    let start = three .before .before .before in
+    let start = last .before .before .before in
     let k = start .args .code in
     let f = start .args .flags in
     let h = three .three-entries .ensures in
@@ -69,9 +69,9 @@ pub slots-word-spec : {M : Type 1} → statement M
 slots-word-spec =
     tie.close
     (tie.spec
-    three-entries-requires
     last-slots-requires
     entry-requires
+    three-entries-requires
     inverters-of-requires
     mul-result
     add-result
