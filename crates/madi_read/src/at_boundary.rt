@@ -6,12 +6,13 @@ ghost use Prim.Native.Nat.{_*_, _<_, _≤_};
 ghost use lib.ListN.{length, take};
 ghost use Rattle.bits.specs.Pick.{pick};
 ghost use Rattle.bits.specs.Row.{bigBits};
+ghost use Rattle.subframe.specs.Body.{evenBody};
 ghost use Rattle.madi_code.specs.Frame.{boundary};
 ghost use Rattle.madi_code.specs.Channels.{channelOf};
 ghost use Rattle.madi_code.specs.Inner.{Means};
 ghost use Rattle.madi_read.specs.Reader.{carried, firstRight, activeRight, channelPiece, channelAt, endOf, commandPiece, pieceAt};
 ghost use Rattle.madi_read.specs.Inner.{sofar, shortPiece};
-ghost use Rattle.madi_read.specs.declared.Piece.the-variants.{Refused as NoPiece};
+ghost use Rattle.madi_read.specs.declared.Piece.the-variants.{Channel as AChannel, Refused as NoPiece};
 use crate::Piece;
 use crate::line_bits;
 use madi_code::ChannelBits;
@@ -36,19 +37,26 @@ fn active_right(n: u32, active: u32, w: u32) -> bool
     w == 0
 }
 
+// A channel's word whose required bits are right: its parity.
+fn even_piece(n: u32, w: u32) -> Piece
+    ensures { λ r. ⌜ r ≡ pick (evenBody w) (AChannel w) (NoPiece 9 n) ⌝ }
+{
+    if subframe::parity(w) == 0 {
+        return Piece::Channel(w);
+    }
+    Piece::Refused {
+        number: 9,
+        place: n,
+    }
+}
+
 // A channel's word in its place: its required bits, then its parity.
 fn channel_piece(n: u32, active: u32, w: u32) -> Piece
     ensures { λ r. ⌜ r ≡ channelPiece n active w ⌝ }
 {
     if first_right(n, w) {
         if active_right(n, active, w) {
-            if subframe::parity(w) == 0 {
-                return Piece::Channel(w);
-            }
-            return Piece::Refused {
-                number: 9,
-                place: n,
-            };
+            return even_piece(n, w);
         }
     }
     Piece::Refused {

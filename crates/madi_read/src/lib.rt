@@ -1,8 +1,12 @@
 // The MADI reader: a frame, piece by piece.
 ghost use mathlib.Core.Path.{_≡_};
+ghost use mathlib.Core.Bool.{_&&_};
 ghost use Prim.Native.Nat.{_+_, _*_, _/_, _≤_};
+ghost use lib.Dec.{eqb, leb};
 ghost use lib.ListN.{length};
+ghost use Rattle.bits.specs.Row.{bit};
 ghost use Rattle.answer.specs.Answer.{mapped, after};
+ghost use Rattle.madi_code.specs.Frame.{counted};
 ghost use Rattle.madi_read.specs.Reader.{carried, cleared as wordCleared, rowRead, spareZero, frameRead, countsOf, wordsOf};
 ghost use Rattle.madi_read.specs.Reader.{commandsOf, frameSaid};
 ghost use Rattle.madi_read.specs.Inner.{Listed, Held};
@@ -32,6 +36,13 @@ fn cleared(w: u32) -> u32
     ensures { λ r. ⌜ r ≡ wordCleared w ⌝ }
 {
     w - w % 4
+}
+
+// Bit 1, which is set on active channels.
+fn active_bit(w: u32) -> u32
+    ensures { λ r. ⌜ r ≡ bit 1 w ⌝ }
+{
+    w / 2 % 2
 }
 
 // A list of 255 with no command in it.
@@ -77,7 +88,7 @@ fn walk(
             }
             Piece::Channel(w) => {
                 held[n as usize] = cleared(w);
-                active += w / 2 % 2;
+                active += active_bit(w);
                 n += 1;
             }
             Piece::Refused { number, place } => {
@@ -128,6 +139,31 @@ fn read_checked(
     }
 }
 
+// Whether these are 56 or 64 channels, a level, and no more bits than the longest frame has.
+fn numbers_right(channels: u32, level: u32, bits: u32) -> bool
+    ensures { λ r. ⌜ r ≡ (counted channels && (leb level 1 && leb bits 5110)) ⌝ }
+{
+    if madi_code::is_counted(channels) {
+        if level <= 1 {
+            return bits <= 5110;
+        }
+    }
+    false
+}
+
+// Whether the buffers have the exact lengths.
+fn lengths_right(channels: u32, bits: u32, octets: usize, words: usize, commands: usize) -> bool
+    requires { ⌜ bits ≤ 5110 ⌝ }
+    ensures { λ r. ⌜ r ≡ (eqb octets ((bits + 7) / 8) && (eqb words channels && eqb commands 255)) ⌝ }
+{
+    if octets == (bits as usize + 7) / 8 {
+        if words == channels as usize {
+            return commands == 255;
+        }
+    }
+    false
+}
+
 // Reads a frame of so many bits, after a level: every word of it goes to words, and its commands to commands.
 pub fn read_frame(
     channels: u32,
@@ -141,28 +177,20 @@ pub fn read_frame(
     ensures { λ r. ⌜ now (words .exit) ≡ after wordsOf (frameRead channels level bits (now (line .entry)) (length (now (words .entry))) (length (now (commands .entry)))) (now (words .entry)) ⌝ }
     ensures { λ r. ⌜ now (commands .exit) ≡ after commandsOf (frameRead channels level bits (now (line .entry)) (length (now (words .entry))) (length (now (commands .entry)))) (now (commands .entry)) ⌝ }
 {
-    if madi_code::is_counted(channels) {
-        if level <= 1 {
-            if bits <= 5110 {
-                if line.len() == (bits as usize + 7) / 8 {
-                    if words.len() == channels as usize {
-                        if commands.len() == 255 {
-                            if spare_zero(bits, line) {
-                                return read_checked(channels, level, bits, line, words, commands);
-                            }
-                            return ReadAnswer::Refused {
-                                number: 2,
-                                place: 0,
-                            };
-                        }
-                    }
-                }
-                return ReadAnswer::Refused {
-                    number: 1,
-                    place: 0,
-                };
+    if numbers_right(channels, level, bits) {
+        if lengths_right(channels, bits, line.len(), words.len(), commands.len()) {
+            if spare_zero(bits, line) {
+                return read_checked(channels, level, bits, line, words, commands);
             }
+            return ReadAnswer::Refused {
+                number: 2,
+                place: 0,
+            };
         }
+        return ReadAnswer::Refused {
+            number: 1,
+            place: 0,
+        };
     }
     ReadAnswer::Refused {
         number: 2,

@@ -247,27 +247,30 @@ slice-write-held c =
     let d = b .before .before .before .before .before .before .before in
     omega (arith, d .before .before .before .before .before .before .before .before .before .before .before .before .pre .3, step (b .before .before) (Channel (b .p2 .given .0 .0)) (b .p2 .given .1) .0, stands d .most, stands d .long)
 
+active-bit-requires : tie.Need-active-bit-requires Inv-loop μ-loop
+active-bit-requires c κs = search needs
+
 add-active-2 : tie.Need-add-active-2 Inv-loop μ-loop
-add-active-2 c = search needs
+add-active-2 c = omega (arith, c .active-bit .ensures, stands (c .before .before .before .before .before .before .before .before .before .before) .actives)
 
 add-n : tie.Need-add-n Inv-loop μ-loop
 add-n c = search needs
 
 loop-less-2 : tie.Need-loop-less-2 Inv-loop μ-loop
 loop-less-2 c =
-    let b = c .before .before in
+    let b = c .before .before .before in
     let d = b .before .before .before .before .before .before .before in
     omega (arith, step (b .before .before) (Channel (b .p2 .given .0 .0)) (b .p2 .given .1) .0, width d, stands d .further, stands d .many)
 
 loop-again-2 : tie.Need-loop-again-2 Inv-loop μ-loop
 loop-again-2 c =
-    let b = c .before .before in
+    let b = c .before .before .before in
     let w = b .p2 .given .0 .0 in
     let d = b .before .before .before .before .before .before .before in
     let g = stands d in
     let q = step (b .before .before) (Channel w) (b .p2 .given .1) in
     let h : count d < length (kept d) = omega (arith, d .before .before .before .before .before .before .before .before .before .before .before .before .pre .3, q .0, g .most, g .long) in
-    rw (c .cleared .ensures) (
+    rw (c .before .cleared .ensures, c .active-bit .ensures) (
       omega (arith, q .0, g .most),
       g .few,
       omega (arith, q .0, width d, g .many),
@@ -325,6 +328,7 @@ walk-spec =
     cast-held
     mul-held
     slice-write-held
+    active-bit-requires
     add-active-2
     add-n
     loop-less-2

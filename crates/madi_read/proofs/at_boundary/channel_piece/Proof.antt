@@ -1,7 +1,6 @@
 -- `madi_read::at_boundary::channel_piece` meets its contract: the tests are the definition's. Assumes nothing.
 use mathlib.Core.Path.{sym, _∙_}
 use borrow.Author.Needs.{needs}
-use borrow.Author.Tests.{eq-eqb, ne-eqb}
 use Rattle.madi_read.proofs.at_boundary.channel_piece.Statement.{statement}
 use Rattle.madi_read.proofs.at_boundary.channel_piece.Tie as tie
 
@@ -11,20 +10,20 @@ first-right-requires c κs = search needs
 active-right-requires : tie.Need-active-right-requires
 active-right-requires c κs = search needs
 
-parity-requires : tie.Need-parity-requires
-parity-requires c κs = search needs
+even-piece-requires : tie.Need-even-piece-requires
+even-piece-requires c κs = search needs
 
 returns : tie.Need-returns
-returns c = rw (sym (c .before .before .before .before .before .first-right .ensures) ∙ c .before .before .before .before .if1 .taken, sym (c .before .before .before .active-right .ensures) ∙ c .before .before .if2 .taken, eq-eqb _ 0 (sym (c .before .parity .ensures) ∙ c .if3 .taken))
+returns c =
+    let a = c .before .before in
+    rw (sym (a .before .before .first-right .ensures) ∙ a .before .if1 .taken, sym (a .active-right .ensures) ∙ c .before .if2 .taken)
+    (c .even-piece .ensures)
 
 returns-2 : tie.Need-returns-2
-returns-2 c = rw (sym (c .before .before .before .before .before .first-right .ensures) ∙ c .before .before .before .before .if1 .taken, sym (c .before .before .before .active-right .ensures) ∙ c .before .before .if2 .taken, ne-eqb _ 0 (λ e. c .if3 .left (c .before .parity .ensures ∙ e)))
+returns-2 c = rw (sym (c .before .before .before .first-right .ensures) ∙ c .before .before .if1 .taken, sym (c .before .active-right .ensures) ∙ c .if2 .left)
 
 returns-3 : tie.Need-returns-3
-returns-3 c = rw (sym (c .before .before .before .first-right .ensures) ∙ c .before .before .if1 .taken, sym (c .before .active-right .ensures) ∙ c .if2 .left)
-
-returns-4 : tie.Need-returns-4
-returns-4 c = rw (sym (c .before .first-right .ensures) ∙ c .if1 .left)
+returns-3 c = rw (sym (c .before .first-right .ensures) ∙ c .if1 .left)
 
 pub channel-piece-spec : {M : Type 1} → statement M
 channel-piece-spec =
@@ -32,8 +31,7 @@ channel-piece-spec =
     (tie.spec
     first-right-requires
     active-right-requires
-    parity-requires
+    even-piece-requires
     returns
     returns-2
-    returns-3
-    returns-4)
+    returns-3)
