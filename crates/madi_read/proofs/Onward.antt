@@ -6,7 +6,9 @@ use Prim.Native.Nat.{ℕ, _+_, _-_, _/_, _%_, _^_, _≤_, _<_}
 use native.Mathlib.Nat.{div-one}
 use native.Mathlib.Omega.{arith}
 use borrow.Author.Tests.{lt-ltb, le-ltb, le-leb, eq-eqb, ne-eqb}
+use lib.Dec.{eqb}
 use lib.ListN.{length, length-append}
+use Rattle.bits.specs.Pick.{pick}
 use Rattle.bits.specs.Row.{Row, big}
 use Rattle.bits.specs.Window.{part, window}
 use Rattle.bits.proofs.Windows.{length-part, window-high}
@@ -15,9 +17,11 @@ use Rattle.madi_code.specs.Channels.{channelRow, channelOf}
 use Rattle.madi_code.specs.Frame.{boundary, synced}
 use Rattle.madi_code.specs.declared.ChannelBits.the-variants.{Word}
 use Rattle.madi_code.proofs.ChannelLaws.{channel-only, groups-all, channel-no-command}
-use Rattle.madi_read.specs.Reader.{Frame, placeOf, channelPiece, pieceAt}
-use Rattle.madi_read.specs.Inner.{sofar, Plain, Reached}
+use Rattle.madi_read.specs.Reader.{Frame, placeOf, channelPiece, channelAt, endOf, commandPiece, pieceAt}
+use Rattle.madi_read.specs.Inner.{sofar, shortPiece, Plain, Reached}
+use Rattle.madi_read.specs.declared.Piece.{Piece}
 use Rattle.madi_read.specs.declared.Piece.the-variants.{End, Command, Channel}
+use Rattle.madi_read.specs.declared.Piece.the-variants.{Refused as NoPiece}
 use Rattle.madi_read.proofs.Walking.{read-step}
 
 -- ---- what stands at a boundary
@@ -63,6 +67,54 @@ module _ (r : Row) (channels : ℕ) (f : Frame) where
   pub piece-end : placeOf f ≡ length r → f .channels ≡ channels → synced (f .commands) ≡ true → pieceAt r channels f ≡ End
   unfolding pieceAt
   piece-end at all with-sync = rw (eq-eqb (placeOf f) (length r) at, eq-eqb (f .channels) channels all, with-sync)
+
+-- ---- the ways out at a boundary after n channels and s commands
+
+module _ (r : Row) (channels n active s bits : ℕ) (commands : List ℕ) (many : length commands ≡ s) (width : length r ≡ bits) where
+  abbrev piece : Piece
+  piece = pieceAt r channels (sofar n active commands [])
+
+  pub at-end : boundary n s ≡ bits → endOf channels n commands (boundary n s) ≡ piece
+  unfolding pieceAt
+  at-end e = rw (many, width, eq-eqb (boundary n s) bits e)
+
+  pub at-short : (boundary n s ≡ bits → ⊥) → bits < boundary n s + 40 → shortPiece r s (boundary n s) ≡ piece
+  unfolding pieceAt
+  at-short apart h = rw (many, width, ne-eqb (boundary n s) bits apart, lt-ltb bits (boundary n s + 40) h)
+
+  module _ (fits : boundary n s + 40 ≤ bits) where
+    pub at-word : (w : ℕ) → channelOf (part r (boundary n s) 40) ≡ Word w → pick (eqb n channels) (NoPiece 10 (boundary n s)) (channelPiece n active w) ≡ piece
+    unfolding pieceAt
+    at-word w e =
+        rw (
+          many,
+          width,
+          ne-eqb (boundary n s) bits (λ q. absurd (omega arith)),
+          le-leb (boundary n s + 10) bits (omega arith),
+          no-command r (boundary n s) w e,
+          le-ltb bits (boundary n s + 40) fits,
+          e,
+        )
+
+    pub at-command : (c : ℕ) → c ≡ commandOf (window r (boundary n s) 10) → c < 16 → commandPiece c s (boundary n s) ≡ piece
+    unfolding pieceAt
+    at-command c e known =
+        rw (many, width, ne-eqb (boundary n s) bits (λ q. absurd (omega arith)), le-leb (boundary n s + 10) bits (omega arith), ← e, lt-ltb c 16 known)
+
+    pub at-no-word : (c : ℕ) → c ≡ commandOf (window r (boundary n s) 10) → 16 ≤ c → (b : Row) → b ≡ part r (boundary n s) 40
+        → pick (eqb n channels) (NoPiece 10 (boundary n s)) (channelAt (boundary n s) n active (channelOf b)) ≡ piece
+    unfolding pieceAt
+    at-no-word c e none b same =
+        rw (
+          many,
+          width,
+          ne-eqb (boundary n s) bits (λ q. absurd (omega arith)),
+          le-leb (boundary n s + 10) bits (omega arith),
+          ← e,
+          le-ltb c 16 none,
+          le-ltb bits (boundary n s + 40) fits,
+          same,
+        )
 
 -- ---- one piece more
 

@@ -1,9 +1,8 @@
 -- `madi_read::at_boundary::piece_at` meets its contract: each way out is a row of the definition. Assumes nothing.
 use mathlib.Core.Path.{_≡_, sym, ap, _∙_}
-use Prim.Native.Nat.{_+_, _/_, _^_, _<_}
+use Prim.Native.Nat.{_/_, _^_}
 use native.Mathlib.Omega.{arith}
 use borrow.Author.Needs.{needs}
-use borrow.Author.Tests.{lt-ltb, le-ltb, le-leb, eq-eqb, ne-eqb}
 use lib.ListN.{length, take}
 use lib.Seq.{length-take-le}
 use Rattle.bits.specs.Row.{Row}
@@ -13,9 +12,9 @@ use Rattle.madi_code.specs.Channels.{channelOf}
 use Rattle.madi_code.specs.Frame.{boundary}
 use Rattle.madi_code.specs.declared.ChannelBits.the-variants.{Word}
 use Rattle.madi_code.proofs.TableLaws.{word-received}
-use Rattle.madi_read.specs.Reader.{carried, pieceAt}
+use Rattle.madi_read.specs.Reader.{carried}
 use Rattle.madi_read.proofs.Carrying.{length-carried, first-ten, forty}
-use Rattle.madi_read.proofs.Onward.{no-command}
+use Rattle.madi_read.proofs.Onward.{at-end, at-short, at-word, at-command, at-no-word}
 use Rattle.madi_read.proofs.at_boundary.piece_at.Statement.{statement}
 use Rattle.madi_read.proofs.at_boundary.piece_at.Tie as tie
 
@@ -63,10 +62,10 @@ end-of-requires : tie.Need-end-of-requires
 end-of-requires c κs = search needs
 
 returns : tie.Need-returns
-unfolding pieceAt
 returns c =
     let s = c .before .before .before .before in
-    rw (came s, c .end-of .ensures, width s, eq-eqb _ _ (c .before .if1 .taken))
+    let a = s .args in
+    c .end-of .ensures ∙ at-end (row s) (a .channels) (a .n) (a .active) (a .s) (a .bits) (take (a .s) (a .codes .now)) (came s) (width s) (c .before .if1 .taken)
 
 add-if2 : tie.Need-add-if2
 add-if2 c = search needs
@@ -75,10 +74,10 @@ short-piece-requires : tie.Need-short-piece-requires
 short-piece-requires c κs = search needs
 
 returns-2 : tie.Need-returns-2
-unfolding pieceAt
 returns-2 c =
     let s = c .before .before .before .before .before in
-    rw (came s, c .short-piece .ensures, width s, ne-eqb _ _ (c .before .before .if1 .left), lt-ltb _ _ (c .before .if2 .taken))
+    let a = s .args in
+    c .short-piece .ensures ∙ at-short (row s) (a .channels) (a .n) (a .active) (a .s) (a .bits) (take (a .s) (a .codes .now)) (came s) (width s) (c .before .before .if1 .left) (c .before .if2 .taken)
 
 cast-bits-at : tie.Need-cast-bits-at
 cast-bits-at c = search needs
@@ -96,21 +95,11 @@ word-piece-requires : tie.Need-word-piece-requires
 word-piece-requires c κs = search needs
 
 returns-3 : tie.Need-returns-3
-unfolding pieceAt
 returns-3 c =
     let b = c .before .before .before in
     let s = b .before .before .before .before .before in
-    let at = boundary (s .args .n) (s .args .s) in
-    rw (
-      came s,
-      c .word-piece .ensures,
-      width s,
-      ne-eqb _ _ (b .before .before .if1 .left),
-      le-leb (at + 10) (s .args .bits) (omega (arith, b .before .if2 .left)),
-      no-command (row s) at (c .before .before .word-by .result) (word (c .before)),
-      le-ltb _ _ (b .before .if2 .left),
-      word (c .before),
-    )
+    let a = s .args in
+    c .word-piece .ensures ∙ at-word (row s) (a .channels) (a .n) (a .active) (a .s) (a .bits) (take (a .s) (a .codes .now)) (came s) (width s) (b .before .if2 .left) (c .before .before .word-by .result) (word (c .before))
 
 command-of-requires : tie.Need-command-of-requires
 command-of-requires c κs = search needs
@@ -119,42 +108,25 @@ command-piece-requires : tie.Need-command-piece-requires
 command-piece-requires c κs = search needs
 
 returns-4 : tie.Need-returns-4
-unfolding pieceAt
 returns-4 c =
     let k = c .before .before in
     let b = k .before .before .before in
     let s = b .before .before .before .before .before in
-    rw (
-      came s,
-      c .command-piece .ensures,
-      width s,
-      ne-eqb _ _ (b .before .before .if1 .left),
-      le-leb (boundary (s .args .n) (s .args .s) + 10) (s .args .bits) (omega (arith, b .before .if2 .left)),
-      ← command k,
-      lt-ltb _ 16 (c .before .if4 .taken),
-    )
+    let a = s .args in
+    c .command-piece .ensures ∙ at-command (row s) (a .channels) (a .n) (a .active) (a .s) (a .bits) (take (a .s) (a .codes .now)) (came s) (width s) (b .before .if2 .left) (k .command-of .result) (command k) (c .before .if4 .taken)
 
 no-word-requires : tie.Need-no-word-requires
 no-word-requires c κs = search needs
 
 returns-5 : tie.Need-returns-5
-unfolding pieceAt
 returns-5 c =
     let k = c .before .before in
     let b = k .before .before .before in
     let s = b .before .before .before .before .before in
     let a = s .args in
-    rw (
-      came s,
-      c .no-word .ensures,
-      width s,
-      ne-eqb _ _ (b .before .before .if1 .left),
-      le-leb (boundary (a .n) (a .s) + 10) (a .bits) (omega (arith, b .before .if2 .left)),
-      ← command k,
-      le-ltb _ 16 (c .before .if4 .left),
-      le-ltb _ _ (b .before .if2 .left),
-      forty (a .level) (a .bits) (a .line .now) (omega arith) (boundary (a .n) (a .s)) (b .bits-at .result) (b .before .if2 .left) (b .bits-at .ensures),
-    )
+    c .no-word .ensures
+    ∙ at-no-word (row s) (a .channels) (a .n) (a .active) (a .s) (a .bits) (take (a .s) (a .codes .now)) (came s) (width s) (b .before .if2 .left) (k .command-of .result) (command k) (c .before .if4 .left) _
+    (forty (a .level) (a .bits) (a .line .now) (omega arith) (boundary (a .n) (a .s)) (b .bits-at .result) (b .before .if2 .left) (b .bits-at .ensures))
 
 pub piece-at-spec : {M : Type 1} → statement M
 piece-at-spec =
