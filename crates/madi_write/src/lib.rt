@@ -1,8 +1,9 @@
 // The MADI writer: a block of 40 bits, its levels, its octets; the checks; a frame.
 ghost use mathlib.Core.Path.{_≡_};
-ghost use mathlib.Core.Bool.{true};
+ghost use mathlib.Core.Bool.{true, _&&_};
 ghost use mathlib.Core.List.{List, _++_};
 ghost use Prim.Native.Nat.{ℕ, _+_, _*_, _/_, _%_, _^_, _<_, _≤_};
+ghost use lib.Dec.{leb};
 ghost use lib.ListN.{length, getD, drop};
 ghost use Rattle.answer.specs.Answer.{accepted, verdict, rewritten};
 ghost use Rattle.answer.specs.Demand.{provided};
@@ -29,15 +30,15 @@ fn sent_word(words: &[u32], b: usize) -> u32
     0
 }
 
-// The first k commands of the q-th four of a list, at most four, the earliest highest. The table is that of commands.
-fn commands_from(codes: &[u16; 16], commands: &[u8], q: usize, k: usize) -> u64
-    requires { ⌜ (now codes ≡ commandCodes) × (k ≤ 4) × (4 * q + k ≤ length (now commands)) × (numbered (now commands) ≡ true) ⌝ }
-    ensures { λ r. ⌜ r ≡ commandsNumber (now (commands .entry)) (4 * q) k ⌝ }
+// The k commands of a list from the i-th on, at most four, the earliest highest. The table is that of commands.
+fn commands_from(codes: &[u16; 16], commands: &[u8], i: usize, k: usize) -> u64
+    requires { ⌜ (now codes ≡ commandCodes) × (k ≤ 4) × (i + k ≤ length (now commands)) × (numbered (now commands) ≡ true) ⌝ }
+    ensures { λ r. ⌜ r ≡ commandsNumber (now (commands .entry)) i k ⌝ }
 {
     let mut x: u64 = 0;
     let mut j: usize = 0;
     while j < k {
-        x = x * 0x400 + codes[commands[4 * q + j] as usize] as u64;
+        x = x * 0x400 + codes[commands[i + j] as usize] as u64;
         j += 1;
     }
     x
@@ -121,25 +122,19 @@ fn lay_inactive(table: &[u8; 16], words: &[u32], channels: usize, last: u64, lin
 }
 
 // The commands by fours, behind the channels; gives the level that they leave. The table is that of commands.
-fn lay_fours(
-    codes: &[u16; 16],
-    commands: &[u8],
-    channels: usize,
-    level: u64,
-    line: &mut [u8],
-) -> u64
-    requires { ⌜ (now codes ≡ commandCodes) × (level < 2) × (channels ≤ 64) × (length (now commands) ≤ 255) × (numbered (now commands) ≡ true) × (5 * (channels + length (now commands) / 4) ≤ length (now line)) ⌝ }
-    ensures { λ r. ⌜ ((words : List ℕ) (first : ℕ) → length words ≤ channels → LevelAt channels words (now (commands .entry)) first level channels → Passed channels words (now (commands .entry)) first (now (line .entry)) channels (now (line .exit)) r (channels + length (now (commands .entry)) / 4)) ⌝ }
+fn lay_fours(codes: &[u16; 16], commands: &[u8], channels: usize, last: u64, line: &mut [u8]) -> u64
+    requires { ⌜ (now codes ≡ commandCodes) × (last < 2) × (channels ≤ 64) × (length (now commands) ≤ 255) × (numbered (now commands) ≡ true) × (5 * (channels + length (now commands) / 4) ≤ length (now line)) ⌝ }
+    ensures { λ r. ⌜ ((words : List ℕ) (level : ℕ) → length words ≤ channels → LevelAt channels words (now (commands .entry)) level last channels → Passed channels words (now (commands .entry)) level (now (line .entry)) channels (now (line .exit)) r (channels + length (now (commands .entry)) / 4)) ⌝ }
 {
     let whole = channels + commands.len() / 4;
-    let mut last = level;
+    let mut end = last;
     let mut b = channels;
     while b < whole {
-        let x = commands_from(codes, commands, b - channels, 4);
-        last = lay(line, b, last, x);
+        let x = commands_from(codes, commands, 4 * (b - channels), 4);
+        end = lay(line, b, end, x);
         b += 1;
     }
-    last
+    end
 }
 
 // The commands that are left, behind the fours, with zeros behind them up to an octet's end.
@@ -150,7 +145,7 @@ fn lay_left(codes: &[u16; 16], commands: &[u8], channels: usize, last: u64, line
     let fours = commands.len() / 4;
     let whole = channels + fours;
     let k = commands.len() % 4;
-    let x = commands_from(codes, commands, fours, k);
+    let x = commands_from(codes, commands, 4 * fours, k);
     let y = levels_after((last << (10 * k)) + x);
     store(line, 5 * whole, y << (40 - 10 * k), (10 * k + 7) / 8);
 }
@@ -226,17 +221,20 @@ fn check_words(words: &[u32]) -> Verdict
     find_fault(words)
 }
 
-// Whether these are 1 to 255 commands, none above 15, and at least one of them 0. What is 1 in any is gathered, with no
-// branch on a command.
-fn is_list(commands: &[u8]) -> bool
-    ensures { λ r. ⌜ r ≡ isList (now (commands .entry)) ⌝ }
+// Whether a list may have so many commands.
+fn count_right(n: usize) -> bool
+    ensures { λ r. ⌜ r ≡ (leb 1 n && leb n 255) ⌝ }
 {
-    if commands.len() < 1 {
+    if n < 1 {
         return false;
     }
-    if 255 < commands.len() {
-        return false;
-    }
+    n <= 255
+}
+
+// Whether no command is above 15. What is 1 in any is gathered, with no branch on a command.
+fn are_numbered(commands: &[u8]) -> bool
+    ensures { λ r. ⌜ r ≡ numbered (now (commands .entry)) ⌝ }
+{
     let mut any: u8 = 0;
     let mut i = 0;
     while i < commands.len() {
@@ -246,7 +244,27 @@ fn is_list(commands: &[u8]) -> bool
     if 15 < any {
         return false;
     }
-    madi_code::has_sync(commands, commands.len())
+    true
+}
+
+// Whether these are 1 to 255 commands, none above 15, and at least one of them 0.
+fn is_list(commands: &[u8]) -> bool
+    ensures { λ r. ⌜ r ≡ isList (now (commands .entry)) ⌝ }
+{
+    if count_right(commands.len()) {
+        if are_numbered(commands) {
+            return madi_code::has_sync(commands, commands.len());
+        }
+    }
+    false
+}
+
+// The octets needed for so many commands.
+fn octets_needed(channels: u32, n: usize) -> usize
+    requires { ⌜ (channels ≤ 64) × (n ≤ 255) ⌝ }
+    ensures { λ r. ⌜ r ≡ needed channels n ⌝ }
+{
+    (40 * channels as usize + 10 * n + 7) / 8
 }
 
 // Whether all demands are met, before anything is written.
@@ -258,7 +276,7 @@ fn check_frame(channels: u32, words: &[u32], commands: &[u8], level: u32, room: 
             if words.len() <= channels as usize {
                 if is_list(commands) {
                     if level <= 1 {
-                        if (40 * channels as usize + 10 * commands.len() + 7) / 8 <= room {
+                        if octets_needed(channels, commands.len()) <= room {
                             return check_words(words);
                         }
                         return Verdict::Refused {

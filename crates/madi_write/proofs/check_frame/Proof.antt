@@ -1,7 +1,7 @@
 -- `madi_write::check_frame` meets its contract: each way out is a demand of the definition. Assumes nothing.
-use mathlib.Core.Path.{_≡_, sym, _∙_}
+use mathlib.Core.Path.{_≡_, sym, subst, _∙_}
 use mathlib.Core.Bool.{true}
-use Prim.Native.Nat.{_≤_}
+use Prim.Native.Nat.{ℕ, _≤_, _<_}
 use native.Mathlib.Omega.{arith}
 use borrow.Author.Needs.{needs}
 use borrow.Author.Tests.{le-leb, lt-leb}
@@ -36,37 +36,31 @@ is-counted-requires c κs = search needs
 is-list-requires : tie.Need-is-list-requires
 is-list-requires c κs = search needs
 
-mul-if6 : tie.Need-mul-if6
-mul-if6 c = omega (arith, small (c .before .before .before .before .before))
-
-mul-if6-2 : tie.Need-mul-if6-2
-mul-if6-2 c = omega (arith, short (c .before))
-
-add-if6 : tie.Need-add-if6
-add-if6 c = omega (arith, small (c .before .before .before .before .before), short (c .before))
-
-add-if6-2 : tie.Need-add-if6-2
-add-if6-2 c = omega (arith, small (c .before .before .before .before .before), short (c .before))
+octets-needed-requires : tie.Need-octets-needed-requires
+octets-needed-requires c κs = (small (c .before .before .before .before .before), short (c .before))
 
 check-words-requires : tie.Need-check-words-requires
-check-words-requires c κs = omega (arith, small (c .before .before .before .before .before .before))
+check-words-requires c κs = omega (arith, small (c .before .before .before .before .before .before .before))
 
 returns : tie.Need-returns
 returns c =
-    let f = c .before .before .before in
+    let n = c .before .before in
+    let f = n .before .before in
     let t = f .before .before .before .before in
     let a = t .before .before .before .before .args in
     let met : AllMet (argumentDemands (a .channels) (length (a .words .now)) (a .commands .now) (a .level) (a .room)) =
-    counts t & le-leb _ _ (f .before .before .before .if2 .taken) & le-leb _ _ (f .before .before .if3 .taken) & lists f & le-leb _ _ (c .before .before .if5 .taken)
-    & le-leb _ _ (c .before .if6 .taken) & tt in
+    counts t & le-leb _ _ (f .before .before .before .if2 .taken) & le-leb _ _ (f .before .before .if3 .taken) & lists f & le-leb _ _ (n .before .if5 .taken)
+    & le-leb _ _ (subst (λ (m : ℕ). m ≤ a .room) (n .octets-needed .ensures) (c .before .if6 .taken)) & tt in
     c .check-words .ensures
     ∙ sym (passes-on (accepted tt) (argumentDemands (a .channels) (length (a .words .now)) (a .commands .now) (a .level) (a .room)) (channelWordDemands (a .words .now)) met)
 
 returns-2 : tie.Need-returns-2
 returns-2 c =
-    let f = c .before .before in
+    let n = c .before in
+    let f = n .before .before in
+    let a = f .before .before .before .before .before .before .before .before .args in
     sym (stopped (accepted tt) (later (counts (f .before .before .before .before)) (later (le-leb _ _ (f .before .before .before .if2 .taken)) (later (le-leb _ _ (f .before .before .if3 .taken))
-    (later (lists f) (later (le-leb _ _ (c .before .if5 .taken)) (fails (lt-leb _ _ (c .if6 .left)))))))))
+    (later (lists f) (later (le-leb _ _ (n .before .if5 .taken)) (fails (lt-leb _ _ (subst (λ (m : ℕ). a .room < m) (n .octets-needed .ensures) (c .if6 .left))))))))))
 
 returns-3 : tie.Need-returns-3
 returns-3 c =
@@ -95,10 +89,7 @@ check-frame-spec =
     (tie.spec
     is-counted-requires
     is-list-requires
-    mul-if6
-    mul-if6-2
-    add-if6
-    add-if6-2
+    octets-needed-requires
     check-words-requires
     returns
     returns-2

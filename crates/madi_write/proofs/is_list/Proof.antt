@@ -1,112 +1,45 @@
--- `madi_write::is_list` meets its contract: what was gathered is above 15 exactly if some command is. Assumes nothing.
-use mathlib.Core.Path.{_≡_, refl, ap, subst, _∙_}
-use mathlib.Core.Logic.{⊎-elim}
-use mathlib.Core.Bool.{Bool, true, false}
-use Prim.Native.Nat.{ℕ, _-_, _≤_, _<_}
-use native.Mathlib.Omega.{arith}
+-- `madi_write::is_list` meets its contract: the tests are the definition's. Assumes nothing.
+use mathlib.Core.Path.{sym, ap, _∙_}
 use borrow.Author.Needs.{needs}
-use borrow.Author.Tests.{le-leb, lt-leb}
-use lib.Bits.{bitOr, or-lt, or-add-and, and-le-l, and-le-r}
-use lib.ListN.{length, getD}
 use lib.Seq.{take-length}
-use Rattle.bits.proofs.Tests.{order}
-use Rattle.madi_code.specs.Frame.{numbered, synced}
-use Rattle.madi_code.proofs.FrameLaws.{numbered-at, numbered-all}
+use Rattle.madi_code.specs.Frame.{synced}
 use Rattle.madi_write.specs.Writer.{isList}
 use Rattle.madi_write.proofs.is_list.Statement.{statement}
 use Rattle.madi_write.proofs.is_list.Tie as tie
 
-abbrev Inv-loop : tie.InvT-loop
-Inv-loop commands any₀ i₀ any i =
-    (i ≤ length commands) × ((k : ℕ) → k < i → getD commands k 0 ≤ any) × (numbered commands ≡ true → any < 16)
+count-right-requires : tie.Need-count-right-requires
+count-right-requires c κs = search needs
 
-abbrev μ-loop : tie.MeasureT-loop
-μ-loop commands any₀ i₀ any i = length commands - i
+are-numbered-requires : tie.Need-are-numbered-requires
+are-numbered-requires c κs = search needs
 
-not-so : (t : Bool) → (t ≡ true → ⊥) → t ≡ false
-not-so true f = absurd (f refl)
-not-so false f = refl
-
-left-in : (a b : ℕ) → a ≤ bitOr a b
-left-in a b = omega (arith, or-add-and a b, and-le-r a b)
-
-right-in : (a b : ℕ) → b ≤ bitOr a b
-right-in a b = omega (arith, or-add-and a b, and-le-l a b)
-
-returns : tie.Need-returns Inv-loop μ-loop
-unfolding isList
-returns c = rw (lt-leb 1 _ (c .if1 .taken))
-
-returns-2 : tie.Need-returns-2 Inv-loop μ-loop
-unfolding isList
-returns-2 c = rw (le-leb 1 _ (c .before .if1 .left), lt-leb _ 255 (c .if2 .taken))
-
-loop-holds : tie.Need-loop-holds Inv-loop μ-loop
-loop-holds c = (omega arith, λ k h. absurd (omega arith), λ q. omega arith)
-
-shared-slice-read-any : tie.Need-shared-slice-read-any Inv-loop μ-loop
-shared-slice-read-any c = search needs
-
-add-i : tie.Need-add-i Inv-loop μ-loop
-add-i c = search needs
-
-loop-less : tie.Need-loop-less Inv-loop μ-loop
-loop-less c = search needs
-
-loop-again : tie.Need-loop-again Inv-loop μ-loop
-loop-again c =
-    let l = c .before .before in
-    let cs = l .before .before .before .before .args .commands .now in
-    let i = l .loop .i in
-    let any = l .loop .any in
-    let x = getD cs i 0 in (
-      omega arith,
-      λ k h. ⊎-elim (λ (q : i ≤ k). let s : i ≡ k = omega arith in subst (λ (j : ℕ). getD cs j 0 ≤ bitOr any x) s (right-in any x))
-          (λ (q : k < i). omega (arith, l .loop .inv .1 k q, left-in any x)) (order i k),
-      λ q. or-lt 4 any x (l .loop .inv .2 q) (numbered-at cs q i (omega arith)),
-    )
-
-returns-3 : tie.Need-returns-3 Inv-loop μ-loop
-unfolding isList
-returns-3 c =
-    let l = c .before .before in
-    let e = l .before in
-    let cs = e .before .before .before .args .commands .now in
-    rw (
-      le-leb 1 _ (e .before .if1 .left),
-      le-leb _ 255 (e .if2 .left),
-      not-so (numbered cs) (λ q. absurd (omega (arith, c .if3 .taken, l .loop .inv .2 q))),
-    )
-
-has-sync-requires : tie.Need-has-sync-requires Inv-loop μ-loop
+has-sync-requires : tie.Need-has-sync-requires
 has-sync-requires c κs = search needs
 
-returns-4 : tie.Need-returns-4 Inv-loop μ-loop
+returns : tie.Need-returns
 unfolding isList
-returns-4 c =
-    let l = c .before .before .before in
-    let e = l .before in
-    let cs = e .before .before .before .args .commands .now in
-    rw (
-      le-leb 1 _ (e .before .if1 .left),
-      le-leb _ 255 (e .if2 .left),
-      numbered-all cs (λ k h. omega (arith, l .loop .inv .1 k (omega arith), c .before .if3 .left)),
-    )
-    (c .has-sync .ensures ∙ ap synced (take-length cs))
+returns c =
+    let n = c .before .before in
+    rw (sym (n .before .before .count-right .ensures) ∙ n .before .if1 .taken, sym (n .are-numbered .ensures) ∙ c .before .if2 .taken)
+    (c .has-sync .ensures ∙ ap synced (take-length (n .before .before .before .before .args .commands .now)))
+
+returns-2 : tie.Need-returns-2
+unfolding isList
+returns-2 c =
+    let n = c .before in
+    rw (sym (n .before .before .count-right .ensures) ∙ n .before .if1 .taken, sym (n .are-numbered .ensures) ∙ c .if2 .left)
+
+returns-3 : tie.Need-returns-3
+unfolding isList
+returns-3 c = rw (sym (c .before .count-right .ensures) ∙ c .if1 .left)
 
 pub is-list-spec : {M : Type 1} → statement M
 is-list-spec =
     tie.close
     (tie.spec
-    Inv-loop
-    μ-loop
+    count-right-requires
+    are-numbered-requires
+    has-sync-requires
     returns
     returns-2
-    loop-holds
-    shared-slice-read-any
-    add-i
-    loop-less
-    loop-again
-    returns-3
-    has-sync-requires
-    returns-4)
+    returns-3)

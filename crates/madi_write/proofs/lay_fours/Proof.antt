@@ -1,4 +1,4 @@
--- `madi_write::lay_fours` meets its contract: the octets passed are the frame's, whatever its channels are, and `last` is
+-- `madi_write::lay_fours` meets its contract: the octets passed are the frame's, whatever its channels are, and `end` is
 -- the level before the next block. Assumes nothing.
 use mathlib.Core.Path.{_≡_, refl, subst, _∙_}
 use mathlib.Core.List.{List}
@@ -13,13 +13,13 @@ use Rattle.madi_write.proofs.lay_fours.Statement.{statement}
 use Rattle.madi_write.proofs.lay_fours.Tie as tie
 
 abbrev Inv-loop : tie.InvT-loop
-Inv-loop codes commands channels level line₀ whole last₀ b₀ line last b =
-    (channels ≤ b) × (b ≤ channels + length commands / 4) × (length line ≡ length line₀) × (last < 2)
-    × ((words : List ℕ) (first : ℕ) → length words ≤ channels → LevelAt channels words commands first level channels
-    → Passed channels words commands first line₀ channels line last b)
+Inv-loop codes commands channels last line₀ whole end₀ b₀ line end b =
+    (channels ≤ b) × (b ≤ channels + length commands / 4) × (length line ≡ length line₀) × (end < 2)
+    × ((words : List ℕ) (level : ℕ) → length words ≤ channels → LevelAt channels words commands level last channels
+    → Passed channels words commands level line₀ channels line end b)
 
 abbrev μ-loop : tie.MeasureT-loop
-μ-loop codes commands channels level line₀ whole last₀ b₀ line last b = channels + length commands / 4 - b
+μ-loop codes commands channels last line₀ whole end₀ b₀ line end b = channels + length commands / 4 - b
 
 abbrev start : tie.At-loop Inv-loop μ-loop → tie.Start Inv-loop μ-loop
 start p = p .before .before .before
@@ -34,11 +34,14 @@ loop-holds c =
       omega arith,
       refl,
       omega arith,
-      λ words first most e. passed-first (a .channels) words (a .commands .now) first (a .line .now) (a .level) (a .channels) e,
+      λ words level most e. passed-first (a .channels) words (a .commands .now) level (a .line .now) (a .last) (a .channels) e,
     )
 
 sub-commands-from : tie.Need-sub-commands-from Inv-loop μ-loop
 sub-commands-from c = omega arith
+
+mul-commands-from : tie.Need-mul-commands-from Inv-loop μ-loop
+mul-commands-from c = omega arith
 
 commands-from-requires : tie.Need-commands-from-requires Inv-loop μ-loop
 commands-from-requires c κs =
@@ -67,10 +70,10 @@ loop-again c =
       omega arith,
       c .before .line .given ∙ p .loop .inv .2,
       omega (arith, laid .2),
-      λ words first most e. passed-next (a .channels) words (a .commands .now) first most (a .line .now) (a .channels) (p .loop .line) (p .loop .last) (p .loop .b) _ _ _
+      λ words level most e. passed-next (a .channels) words (a .commands .now) level most (a .line .now) (a .channels) (p .loop .line) (p .loop .end) (p .loop .b) _ _ _
           (omega arith) (c .before .line .given)
-          (k .commands-from .ensures ∙ command-block (a .channels) words (a .commands .now) first most (p .loop .b) (p .loop .inv .0)) laid
-          (p .loop .inv .4 words first most e),
+          (k .commands-from .ensures ∙ command-block (a .channels) words (a .commands .now) level most (p .loop .b) (p .loop .inv .0)) laid
+          (p .loop .inv .4 words level most e),
     )
 
 same-length : tie.Need-same-length Inv-loop μ-loop
@@ -82,9 +85,9 @@ returns c =
     let a = start p .args in
     let whole : ℕ = a .channels + length (a .commands .now) / 4 in
     let z : p .loop .b ≡ whole = omega arith in
-    λ words first most e.
-    subst (λ (b : ℕ). Passed (a .channels) words (a .commands .now) first (a .line .now) (a .channels) (p .loop .line) (p .loop .last) b) z
-    (p .loop .inv .4 words first most e)
+    λ words level most e.
+    subst (λ (b : ℕ). Passed (a .channels) words (a .commands .now) level (a .line .now) (a .channels) (p .loop .line) (p .loop .end) b) z
+    (p .loop .inv .4 words level most e)
 
 pub lay-fours-spec : {M : Type 1} → statement M
 lay-fours-spec =
@@ -95,6 +98,7 @@ lay-fours-spec =
     add-whole
     loop-holds
     sub-commands-from
+    mul-commands-from
     commands-from-requires
     lay-requires
     add-b

@@ -13,6 +13,9 @@ use Rattle.madi_write.proofs.lay_left.Tie as tie
 add-whole : tie.Need-add-whole
 add-whole c = search needs
 
+mul-commands-from : tie.Need-mul-commands-from
+mul-commands-from c = search needs
+
 commands-from-requires : tie.Need-commands-from-requires
 commands-from-requires c κs =
     let s = c .before .before in
@@ -75,6 +78,7 @@ lay-left-spec =
     tie.close
     (tie.spec
     add-whole
+    mul-commands-from
     commands-from-requires
     mul-levels-after
     shl-levels-after
