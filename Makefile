@@ -30,9 +30,9 @@ DESTDIR =
 RECORDS = examples/desk.rec
 NIGHT = examples/night.rec
 
-# Crates and edits that are tried at a time: twice the processors of a small machine, since each batch waits for its
-# slowest; with more they hinder each other (docs/FIGURES.md).
-JOBS = 4
+# Crates and edits that are tried at a time: more than twice the processors of a small machine, since each batch waits
+# for its slowest; with many more they hinder each other (docs/FIGURES.md).
+JOBS = 5
 
 CC = cc
 CFLAGS = -std=c11 -O2 -Wall -Wextra -Werror -pedantic
@@ -118,7 +118,7 @@ read:
 
 # The C programs by themselves.
 alone: header build/watched.o build/sound_tool
-	tests/at-once '$(MAKE) -s second held' '$(MAKE) -s hand carry_alone'
+	tests/at-once '$(MAKE) -s second held carry_alone' '$(MAKE) -s hand'
 	$(MAKE) -s mutants
 
 # All proofs, wrong answers and programs; and then why each wrong answer was refused.
