@@ -18,34 +18,34 @@ use Rattle.line.specs.Biphase.{left}
 use Rattle.line.specs.Polarity.{inverted}
 use Rattle.line.proofs.Inverted.{length-inverted}
 use Rattle.subframe.proofs.BodyTrips.{proper-body}
-use Rattle.block.specs.Side.{sideLength}
-use Rattle.block.specs.Block.{bodiesOf, samplesOf, side_of}
-use Rattle.block.specs.Check.{Faultless, overlong, statusChecked}
+use Rattle.block.specs.Side.{side_length}
+use Rattle.block.specs.Block.{bodies_of, samples_of, side_of}
+use Rattle.block.specs.Check.{Faultless, overlong, status_checked}
 use Rattle.block.proofs.BlockLaws.{length-bodies, length-samples, length-side, proper, samples-back, side-back, even-read, bodies-back}
 use Rattle.block.proofs.CheckLaws.{Passes, met-passes, right-back, read-met}
-use Rattle.aes3_line.specs.Line.{lineFrom, levelBefore, bodiesOn}
+use Rattle.aes3_line.specs.Line.{line_from, level_before, bodies_on}
 use Rattle.aes3_line.proofs.LineTrips.{line-level, read_back, write-back}
 use Rattle.aes3_line.proofs.Polarity.{line-not}
-use Rattle.aes3_write.specs.Writer.{block_line, writeAnswer}
+use Rattle.aes3_write.specs.Writer.{block_line, write_answer}
 use Rattle.aes3_write.proofs.BlockWriting.{block-line, length-block, write-met, write-passing}
-use Rattle.aes3_read.specs.Reader.{readAnswer, crccs}
+use Rattle.aes3_read.specs.Reader.{read_answer, crccs}
 use Rattle.aes3_read.proofs.BlockReading.{by-line, received, read_same}
 
 -- ---- what the writer accepts
 
 module _ (samples : List ℤ) (side : List ℕ) (level : ℕ) (old line : List ℕ) (octets : Below 256 side)
-    (e : writeAnswer samples side level (length old) ≡ accepted line) where
+    (e : write_answer samples side level (length old) ≡ accepted line) where
   passes : Passes samples side
   passes =
       let m = (write-met samples side level (length old) line e).0 in
       met-passes samples side (m.0 & m.1.0 & m.1.1.1.1)
 
   abbrev bodies : List ℕ
-  bodies = bodiesOf samples side
+  bodies = bodies_of samples side
 
   -- what the buffer then holds
   abbrev written : List ℕ
-  written = rewritten (writeAnswer samples side level (length old)) old
+  written = rewritten (write_answer samples side level (length old)) old
 
   room : length old ≡ 3072
   room = eqb-true _ 3072 (write-met samples side level (length old) line e).0.1.1.0
@@ -55,10 +55,10 @@ module _ (samples : List ℤ) (side : List ℕ) (level : ℕ) (old line : List �
       let l = (write-met samples side level (length old) line e).1 in
       rw (e, ← l) (whole (λ new. new) (block_line samples side level) old (length-block samples side level ∙ sym room))
 
-  block_read : readAnswer written 384 sideLength ≡ accepted bodies
+  block_read : read_answer written 384 side_length ≡ accepted bodies
   block_read =
-      by-line written 384 sideLength (ap length is_block ∙ length-block samples side level) refl refl
-      ∙ ap bodiesOn (is_block ∙ block-line samples side level)
+      by-line written 384 side_length (ap length is_block ∙ length-block samples side level) refl refl
+      ∙ ap bodies_on (is_block ∙ block-line samples side level)
       ∙ read_back (odd level) bodies (length-bodies samples side) (λ i. proper-body (get_or bodies i 0) (proper samples side i))
 
   -- the writer accepts only a table whose E is empty
@@ -66,15 +66,15 @@ module _ (samples : List ℤ) (side : List ℕ) (level : ℕ) (old line : List �
   written-faultless = passes.faultless
 
   -- whatever the writer accepts the reader accepts, with the same samples, the same side table and both CRCCs right
-  pub written-read-back : (s : List ℤ) (t : List ℕ) → length s ≡ 384 → length t ≡ sideLength
-      → (mapped crccs (readAnswer written (length s) (length t)) ≡ accepted (1, 1))
-      × (after samplesOf (readAnswer written (length s) (length t)) s ≡ samples)
-      × (after side_of (readAnswer written (length s) (length t)) t ≡ side)
+  pub written-read-back : (s : List ℤ) (t : List ℕ) → length s ≡ 384 → length t ≡ side_length
+      → (mapped crccs (read_answer written (length s) (length t)) ≡ accepted (1, 1))
+      × (after samples_of (read_answer written (length s) (length t)) s ≡ samples)
+      × (after side_of (read_answer written (length s) (length t)) t ≡ side)
   written-read-back s t ns nt =
       let back : side_of bodies ≡ side = side-back samples side passes.ranges passes.side octets written-faultless in
       rw (ns, nt, block_read) (
         rw (back, right-back samples side passes 0 (omega arith), right-back samples side passes 1 (omega arith)),
-        whole samplesOf bodies s (length-samples bodies ∙ sym ns) ∙ samples-back samples side passes.ranges passes.samples,
+        whole samples_of bodies s (length-samples bodies ∙ sym ns) ∙ samples-back samples side passes.ranges passes.samples,
         whole side_of bodies t (length-side bodies ∙ sym nt) ∙ back,
       )
 
@@ -87,43 +87,43 @@ module _ (samples : List ℤ) (side : List ℕ) (level : ℕ) (old line : List �
 -- ---- what the reader accepts
 
 module _ (line bodies : List ℕ) (octets : Below 256 line) (s : List ℤ) (t : List ℕ)
-    (e : readAnswer line (length s) (length t) ≡ accepted bodies) where
+    (e : read_answer line (length s) (length t) ≡ accepted bodies) where
   -- what the buffers then hold
   abbrev samples-read : List ℤ
-  samples-read = after samplesOf (readAnswer line (length s) (length t)) s
+  samples-read = after samples_of (read_answer line (length s) (length t)) s
 
   abbrev side-read : List ℕ
-  side-read = after side_of (readAnswer line (length s) (length t)) t
+  side-read = after side_of (read_answer line (length s) (length t)) t
 
-  writes : Faultless side-read → statusChecked side-read ≡ accepted tt → ((i : ℕ) → i < 384 → overlong samples-read side-read i ≡ false)
-      → writeAnswer samples-read side-read (digit (levelBefore line)) 3072 ≡ accepted line
+  writes : Faultless side-read → status_checked side-read ≡ accepted tt → ((i : ℕ) → i < 384 → overlong samples-read side-read i ≡ false)
+      → write_answer samples-read side-read (digit (level_before line)) 3072 ≡ accepted line
   writes none status within =
       let r = received line (length s) (length t) bodies e in
       let w = write-back line bodies r.octets octets r.read in
-      let level = digit (levelBefore line) in
-      let p : samples-read ≡ samplesOf bodies = rw e (whole samplesOf bodies s (length-samples bodies ∙ sym r.samples-long)) in
+      let level = digit (level_before line) in
+      let p : samples-read ≡ samples_of bodies = rw e (whole samples_of bodies s (length-samples bodies ∙ sym r.samples-long)) in
       let q : side-read ≡ side_of bodies = rw e (whole side_of bodies t (length-side bodies ∙ sym r.side-long)) in
       let empty : Faultless (side_of bodies) = subst Faultless q none in
-      let m = read-met bodies empty (ap statusChecked (sym q) ∙ status) (λ i h. ap₂ (λ (x : List ℤ) (y : List ℕ). overlong x y i) (sym p) (sym q) ∙ within i h) in
-      ap₂ (λ (x : List ℤ) (y : List ℕ). writeAnswer x y level 3072) p q
-      ∙ write-passing (samplesOf bodies) (side_of bodies) level 3072
-      (m.0 & m.1.0 & eq-eqb 3072 3072 refl & lt-ltb level 2 (digit_lt (levelBefore line)) & m.1.1)
-      ∙ ap accepted (block-line (samplesOf bodies) (side_of bodies) level
-      ∙ rw (odd-digit (levelBefore line), bodies-back bodies w.many (even-read bodies w.many w.bodies empty)) w.line)
+      let m = read-met bodies empty (ap status_checked (sym q) ∙ status) (λ i h. ap₂ (λ (x : List ℤ) (y : List ℕ). overlong x y i) (sym p) (sym q) ∙ within i h) in
+      ap₂ (λ (x : List ℤ) (y : List ℕ). write_answer x y level 3072) p q
+      ∙ write-passing (samples_of bodies) (side_of bodies) level 3072
+      (m.0 & m.1.0 & eq-eqb 3072 3072 refl & lt-ltb level 2 (digit_lt (level_before line)) & m.1.1)
+      ∙ ap accepted (block-line (samples_of bodies) (side_of bodies) level
+      ∙ rw (odd-digit (level_before line), bodies-back bodies w.many (even-read bodies w.many w.bodies empty)) w.line)
 
   -- writing it back, at the level that the reader took, into 3,072 octets is accepted and gives that line if E is empty,
   -- both status blocks pass 4, 5 and 6, and no sample has a 1 below the length that its channel's status declares
-  pub read-written-back : Faultless side-read → statusChecked side-read ≡ accepted tt
+  pub read-written-back : Faultless side-read → status_checked side-read ≡ accepted tt
       → ((i : ℕ) → i < 384 → overlong samples-read side-read i ≡ false) → (old : List ℕ) → length old ≡ 3072
-      → (verdict (writeAnswer samples-read side-read (digit (levelBefore line)) (length old)) ≡ accepted tt)
-      × (rewritten (writeAnswer samples-read side-read (digit (levelBefore line)) (length old)) old ≡ line)
+      → (verdict (write_answer samples-read side-read (digit (level_before line)) (length old)) ≡ accepted tt)
+      × (rewritten (write_answer samples-read side-read (digit (level_before line)) (length old)) old ≡ line)
   read-written-back none status within old h =
-      let w = ap (writeAnswer samples-read side-read (digit (levelBefore line))) h ∙ writes none status within in
+      let w = ap (write_answer samples-read side-read (digit (level_before line))) h ∙ writes none status within in
       (ap verdict w, ap (λ a. rewritten a old) w ∙ whole (λ new. new) line old ((received line (length s) (length t) bodies e).octets ∙ sym h))
 
 -- ---- inverting every symbol
 
 -- it changes no answer of the reader: what is said and what the buffers hold is said of this answer
-pub inverted-answers : (line : List ℕ) → Below 256 line → (samples side : ℕ) → readAnswer (inverted line) samples side ≡ readAnswer line samples side
+pub inverted-answers : (line : List ℕ) → Below 256 line → (samples side : ℕ) → read_answer (inverted line) samples side ≡ read_answer line samples side
 inverted-answers line octets samples side =
     read_same (inverted line) line samples side (length-inverted line) (λ n. line-not line n octets)

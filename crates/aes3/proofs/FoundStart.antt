@@ -6,20 +6,20 @@ use Prim.Native.Nat.{ℕ, ◌+◌, ◌-◌}
 use native.Mathlib.Nat.{add-zero}
 use native.Mathlib.Omega.{arith}
 use lib.ListN.{length, get_or}
-use Rattle.bits.specs.Row.{Row, bigBits}
+use Rattle.bits.specs.Row.{Row, big_bits}
 use Rattle.bits.specs.Window.{part}
 use Rattle.bits.specs.Pack.{symbols}
 use Rattle.bits.proofs.Windows.{get_d_part}
 use Rattle.answer.specs.Answer.{Answer, Answer.accepted, rewritten}
-use Rattle.line.specs.Preamble.{preambleZ, afterLevel}
+use Rattle.line.specs.Preamble.{preamble_z, after_level}
 use Rattle.line.proofs.PreambleLaws.{after-0, after-1}
-use Rattle.block.specs.Side.{sideLength}
-use Rattle.aes3_line.specs.Position.{bodiesAt}
+use Rattle.block.specs.Side.{side_length}
+use Rattle.aes3_line.specs.Position.{bodies_at}
 use Rattle.aes3_line.proofs.Position.{block-read-at}
-use Rattle.aes3_read.specs.Reader.{readAnswer}
+use Rattle.aes3_read.specs.Reader.{read_answer}
 use Rattle.aes3_read.proofs.BlockReading.{by-line}
 use Rattle.aes3_hunt.specs.Hunt.{hunted}
-use Rattle.aes3_hunt.specs.Align.{blockFrom, aligned}
+use Rattle.aes3_hunt.specs.Align.{block_from, aligned}
 use Rattle.aes3_hunt.proofs.Meaning.{found-fits}
 use Rattle.aes3_hunt.proofs.AlignLaws.{length_from, symbols-from, holds-block}
 
@@ -28,17 +28,17 @@ module _ (line : List ℕ) (p : ℕ) where
   r = symbols line
 
   -- whatever the position: the reader's answer of the block is that of the subframes that stand in the line from there on
-  block-from : readAnswer (blockFrom line p) 384 sideLength ≡ bodiesAt 384 0 (not (get_or r p false)) r p
+  block-from : read_answer (block_from line p) 384 side_length ≡ bodies_at 384 0 (not (get_or r p false)) r p
   block-from =
-      by-line (blockFrom line p) 384 sideLength (length_from line p) refl refl
-      ∙ block-read-at (blockFrom line p) r p (length_from line p)
+      by-line (block_from line p) 384 side_length (length_from line p) refl refl
+      ∙ block-read-at (block_from line p) r p (length_from line p)
       (λ k h. ap (λ (s : Row). get_or s k false) (symbols-from line p) ∙ get_d_part r p 24576 k h)
 
   -- Z after a level begins with its opposite
-  z-opens : (l : Bool) → get_or (afterLevel l preambleZ) 0 false ≡ not l
-  unfolding bigBits
-  z-opens false = rw (after-0 preambleZ)
-  z-opens true = rw (after-1 preambleZ)
+  z-opens : (l : Bool) → get_or (after_level l preamble_z) 0 false ≡ not l
+  unfolding big_bits
+  z-opens false = rw (after-0 preamble_z)
+  z-opens true = rw (after-1 preamble_z)
 
   -- at a start, the level that the reader takes is the symbol that stands before it
   found-level : hunted line ≡ accepted p → not (get_or r p false) ≡ get_or r (p - 1) false
@@ -55,8 +55,8 @@ module _ (line : List ℕ) (p : ℕ) where
 
   -- what was aligned at a found start is read as the line is there: 384 subframes from that symbol on, after the one before it
   pub read-where-found : (old block : List ℕ) → hunted line ≡ accepted p → aligned line p (length old) ≡ accepted block
-      → readAnswer (rewritten (aligned line p (length old)) old) 384 sideLength ≡ bodiesAt 384 0 (get_or r (p - 1) false) r p
+      → read_answer (rewritten (aligned line p (length old)) old) 384 side_length ≡ bodies_at 384 0 (get_or r (p - 1) false) r p
   read-where-found old block e f =
-      ap (λ (b : List ℕ). readAnswer b 384 sideLength) (holds-block line p old f)
+      ap (λ (b : List ℕ). read_answer b 384 side_length) (holds-block line p old f)
       ∙ block-from
-      ∙ ap (λ (l : Bool). bodiesAt 384 0 l r p) (found-level e)
+      ∙ ap (λ (l : Bool). bodies_at 384 0 l r p) (found-level e)

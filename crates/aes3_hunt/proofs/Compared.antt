@@ -11,8 +11,8 @@ use Rattle.answer.specs.Answer.{Answer, Answer.accepted, Answer.refused}
 use Rattle.answer.specs.declared.NumberAnswer.{NumberAnswer}
 use Rattle.answer.proofs.Said.{number-said-once}
 use Rattle.aes3_hunt.specs.Hunt.{hunted, total, reached, compared, Right}
-use Rattle.aes3_hunt.specs.Hunt.Right.{smallest, none, tooLong}
-use Rattle.aes3_hunt.specs.Said.{huntSaid}
+use Rattle.aes3_hunt.specs.Hunt.Right.{smallest, none, too_long}
+use Rattle.aes3_hunt.specs.Said.{hunt_said}
 use Rattle.aes3_hunt.specs.declared.HuntAnswer.{HuntAnswer}
 use Rattle.aes3_hunt.proofs.Cost.{cost-most}
 use Rattle.aes3_hunt.proofs.Meaning.{answer-right}
@@ -44,7 +44,7 @@ module _ (line : List ℕ) where
       go : {a : Answer ℕ} → Right line a → reached (length line * 8 - 72) a ≤ length line * 8 - 72
       go (smallest l s least) = omega (arith, s.to)
       go (none l never) = omega arith
-      go (tooLong g) = omega arith
+      go (too_long g) = omega arith
 
 pub total-most : (r : Row) (n : ℕ) → total r n ≤ 16 * n
 unfolding total
@@ -62,7 +62,7 @@ compared-short line h = omega (arith, compared-most line)
 
 -- ---- said in one way only
 
-pub hunt-said-once : (a b : HuntAnswer) → huntSaid a ≡ huntSaid b → a ≡ b
+pub hunt-said-once : (a b : HuntAnswer) → hunt_said a ≡ hunt_said b → a ≡ b
 hunt-said-once a b e =
     let start : a.start ≡ b.start = number-said-once a.start b.start (ap (λ (s : Answer ℕ × ℕ). s.0) e) in
     let count : a.compared ≡ b.compared = ap (λ (s : Answer ℕ × ℕ). s.1) e in

@@ -15,13 +15,13 @@ use Rattle.bits.proofs.Tests.{order}
 use Rattle.bits.proofs.Firsts.{first-map}
 use Rattle.bits.proofs.Inverting.{length-map, map-append, symbols-inverted}
 use Rattle.bits.proofs.Packing.{highest, length-chain}
-use Rattle.line.specs.Preamble.{preambleY, preambleZ, afterLevel}
+use Rattle.line.specs.Preamble.{preamble_y, preamble_z, after_level}
 use Rattle.line.specs.Polarity.{inverted}
 use Rattle.line.proofs.Inverted.{inverted-octets, length-inverted}
 use Rattle.line.proofs.PreambleLaws.{after-not}
 use Rattle.answer.specs.Answer.{Answer, Answer.accepted, Answer.refused}
 use Rattle.answer.specs.Demand.{provided}
-use Rattle.aes3_hunt.specs.Hunt.{opens, fits, huntDemands, hunted, standing, required, differs, cost, total, reached, compared, boundedHunt}
+use Rattle.aes3_hunt.specs.Hunt.{opens, fits, hunt_demands, hunted, standing, required, differs, cost, total, reached, compared, bounded_hunt}
 use Rattle.aes3_hunt.proofs.SameLaws.{same-inverted, xor-not}
 use Rattle.aes3_hunt.proofs.Symbols.{length-standing, length-required}
 use Rattle.aes3_hunt.proofs.Compared.{reached-most}
@@ -42,13 +42,13 @@ not-opens : (r : Row) (p : ℕ) (preamble : Row) → p - 1 + 1 ≤ length r → 
 unfolding opens
 not-opens r p preamble g h =
     rw (not-part r p 8 h, not_at r (p - 1) (omega arith), after-not (get_or r (p - 1) false) preamble)
-    (same-inverted (part r p 8) (afterLevel (get_or r (p - 1) false) preamble))
+    (same-inverted (part r p 8) (after_level (get_or r (p - 1) false) preamble))
 
 not-fits : (r : Row) (p : ℕ) → p + 72 ≤ length r → fits (map not r) p ≡ fits r p
 unfolding fits
 not-fits r p h =
-    ap₂ (λ (a b : Bool). a && b) (not-opens r p preambleZ (omega arith) (omega arith))
-    (not-opens r (p + 64) preambleY (omega arith) (omega arith))
+    ap₂ (λ (a b : Bool). a && b) (not-opens r p preamble_z (omega arith) (omega arith))
+    (not-opens r (p + 64) preamble_y (omega arith) (omega arith))
 
 -- ---- its symbols, compared
 
@@ -64,9 +64,9 @@ module _ (r : Row) (p : ℕ) (h : p + 72 ≤ length r) where
   not-required =
       let l = get_or r (p - 1) false in
       let m = get_or r (p + 63) false in
-      ap₂ (λ (a b : Bool). afterLevel a preambleZ ++ afterLevel b preambleY) (not_at r (p - 1) (omega arith)) (not_at r (p + 63) (omega arith))
-      ∙ ap₂ (λ (a b : Row). a ++ b) (after-not l preambleZ) (after-not m preambleY)
-      ∙ sym (map-append not (afterLevel l preambleZ) (afterLevel m preambleY))
+      ap₂ (λ (a b : Bool). after_level a preamble_z ++ after_level b preamble_y) (not_at r (p - 1) (omega arith)) (not_at r (p + 63) (omega arith))
+      ∙ ap₂ (λ (a b : Row). a ++ b) (after-not l preamble_z) (after-not m preamble_y)
+      ∙ sym (map-append not (after_level l preamble_z) (after_level m preamble_y))
 
   not-differs : (k : ℕ) → k < 16 → differs (map not r) p k ≡ differs r p k
   unfolding differs
@@ -99,7 +99,7 @@ pub inverted-same : (line : List ℕ) → Below 256 line → hunted (inverted li
 unfolding hunted first
 inverted-same line h =
     rw (inverted-octets line h, symbols-inverted line h, length-map (λ (o : ℕ). 255 - o) line)
-    (ap (provided (huntDemands line)) (⊎_elim short long (order (length line * 8) 72)))
+    (ap (provided (hunt_demands line)) (⊎_elim short long (order (length line * 8) 72)))
   where
     short : length line * 8 ≤ 72 → answer (fits (map not (symbols line))) line ≡ answer (fits (symbols line)) line
     short g =
@@ -121,5 +121,5 @@ inverted-compared line h =
     go zero l = refl
     go (suc n) l = not-total (symbols line) (suc n) (omega (arith, length-chain (highest 8) line))
 
-pub inverted-hunt : (line : List ℕ) → Below 256 line → boundedHunt (inverted line) ≡ boundedHunt line
+pub inverted-hunt : (line : List ℕ) → Below 256 line → bounded_hunt (inverted line) ≡ bounded_hunt line
 inverted-hunt line h = ap₂ (λ (a : Answer ℕ) (n : ℕ). (a, n)) (inverted-same line h) (inverted-compared line h)

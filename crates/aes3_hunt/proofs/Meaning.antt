@@ -11,13 +11,13 @@ use lib.ListN.{length, get_or}
 use Rattle.bits.specs.Pick.{first}
 use Rattle.bits.specs.Pack.{symbols}
 use Rattle.bits.proofs.Tests.{both_true, no-yes, order}
-use Rattle.line.specs.Preamble.{preambleY, preambleZ, afterLevel}
+use Rattle.line.specs.Preamble.{preamble_y, preamble_z, after_level}
 use Rattle.answer.specs.Answer.{Answer, Answer.accepted, Answer.refused}
 use Rattle.answer.specs.Demand.{◌&◌}
 use Rattle.answer.specs.Demand.Stops.{fails}
 use Rattle.answer.proofs.Chains.{not-both, search-cases, passing, stopped}
-use Rattle.aes3_hunt.specs.Hunt.{opens, fits, huntDemands, hunted, Start, Right}
-use Rattle.aes3_hunt.specs.Hunt.Right.{smallest, none, tooLong}
+use Rattle.aes3_hunt.specs.Hunt.{opens, fits, hunt_demands, hunted, Start, Right}
+use Rattle.aes3_hunt.specs.Hunt.Right.{smallest, none, too_long}
 use Rattle.aes3_hunt.proofs.SameLaws.{same-means, same_self}
 
 before-y : (p : ℕ) → p + 64 - 1 ≡ p + 63
@@ -26,7 +26,7 @@ before-y p = omega arith
 fits-start : (line : List ℕ) (p : ℕ) → 1 ≤ p → p + 72 ≤ length line * 8 → fits (symbols line) p ≡ true → Start line p
 unfolding fits opens
 fits-start line p l m e =
-    let h = both_true (opens (symbols line) p preambleZ) (opens (symbols line) (p + 64) preambleY) e in
+    let h = both_true (opens (symbols line) p preamble_z) (opens (symbols line) (p + 64) preamble_y) e in
     record {
       from = l;
       to = m;
@@ -38,8 +38,8 @@ start_fits : (line : List ℕ) (p : ℕ) → Start line p → fits (symbols line
 unfolding fits opens
 start_fits line p s =
     rw (before-y p, s.z, s.y)
-    (ap₂ (λ (a b : Bool). a && b) (same_self (afterLevel (get_or (symbols line) (p - 1) false) preambleZ))
-    (same_self (afterLevel (get_or (symbols line) (p + 63) false) preambleY)))
+    (ap₂ (λ (a b : Bool). a && b) (same_self (after_level (get_or (symbols line) (p - 1) false) preamble_z))
+    (same_self (after_level (get_or (symbols line) (p + 63) false) preamble_y)))
 
 -- a start stands after the candidates that were passed
 not-passed : (line : List ℕ) (n : ℕ) → ((p : ℕ) → 1 ≤ p → p < n → fits (symbols line) p ≡ false) → (q : ℕ) → Start line q → n ≤ q
@@ -47,17 +47,17 @@ not-passed line n before q s =
     ⊎_elim (λ (h : n ≤ q). h) (λ (h : q < n). no-yes (fits (symbols line) q) (before q s.from h) (start_fits line q s)) (order n q)
 
 -- the answer: refused by its length, or the first candidate that fits
-pub too_long : (line : List ℕ) → 8192 < length line → hunted line ≡ refused 1 0
+pub too_long_lem : (line : List ℕ) → 8192 < length line → hunted line ≡ refused 1 0
 unfolding hunted
-too_long line h = stopped _ (fails (lt-leb (length line) 8192 h))
+too_long_lem line h = stopped _ (fails (lt-leb (length line) 8192 h))
 
 pub long-enough : (line : List ℕ) → length line ≤ 8192
     → hunted line ≡ first (fits (symbols line)) 1 (length line * 8 - 72) (λ p. accepted p) (refused 17 0)
 unfolding hunted
-long-enough line h = passing _ (huntDemands line) (le-leb (length line) 8192 h & tt)
+long-enough line h = passing _ (hunt_demands line) (le-leb (length line) 8192 h & tt)
 
 pub answer-right : (line : List ℕ) → Right line (hunted line)
-answer-right line = ⊎_elim searched (λ h. rw (too_long line h) (tooLong h)) (order (length line) 8192)
+answer-right line = ⊎_elim searched (λ h. rw (too_long_lem line h) (too_long h)) (order (length line) 8192)
   where
     searched : length line ≤ 8192 → Right line (hunted line)
     searched h =
@@ -72,13 +72,13 @@ one_right line (smallest {p} l s least) (smallest {p = q} l' s' least') =
     let e : p ≡ q = omega (arith, least q s', least' p s) in
     ap accepted e
 one_right line (smallest {p} l s least) (none l' never) = absurd (never p s)
-one_right line (smallest l s least) (tooLong g) = absurd (omega arith)
+one_right line (smallest l s least) (too_long g) = absurd (omega arith)
 one_right line (none l never) (smallest {p} l' s least) = absurd (never p s)
 one_right line (none l never) (none l' never') = refl
-one_right line (none l never) (tooLong g) = absurd (omega arith)
-one_right line (tooLong g) (smallest l s least) = absurd (omega arith)
-one_right line (tooLong g) (none l never) = absurd (omega arith)
-one_right line (tooLong g) (tooLong g') = refl
+one_right line (none l never) (too_long g) = absurd (omega arith)
+one_right line (too_long g) (smallest l s least) = absurd (omega arith)
+one_right line (too_long g) (none l never) = absurd (omega arith)
+one_right line (too_long g) (too_long g') = refl
 
 pub right_answer : (line : List ℕ) {a : Answer ℕ} → Right line a → hunted line ≡ a
 right_answer line r = one_right line (answer-right line) r
@@ -106,4 +106,4 @@ none-fits line e = go (refused 17 0) refl (rw e at (answer-right line))
     go : (a : Answer ℕ) → a ≡ refused 17 0 → Right line a → (q : ℕ) → Start line q → ⊥
     go a f (none l never) = never
     go a f (smallest {p} l s least) = not-both (sym f)
-    go a f (tooLong g) = absurd (let z : ◌≡◌ {A = ℕ} 1 17 = cc in omega arith)
+    go a f (too_long g) = absurd (let z : ◌≡◌ {A = ℕ} 1 17 = cc in omega arith)

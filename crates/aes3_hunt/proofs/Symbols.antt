@@ -7,15 +7,15 @@ use Prim.Native.Nat.{ℕ, suc, ◌+◌, ◌-◌, ◌*◌, ◌/◌, ◌%◌, ◌^
 use native.Mathlib.Omega.{arith}
 use lib.Bits.{bit_xor}
 use lib.ListN.{length, get_or, length-append}
-use Rattle.bits.specs.Row.{Row, digit, odd, big, bigBits, xorRow}
+use Rattle.bits.specs.Row.{Row, digit, odd, big, big_bits, xor_row}
 use Rattle.bits.specs.Window.{part, window}
 use Rattle.bits.specs.Pack.{symbols}
 use Rattle.bits.proofs.Digits.{digit-odd}
-use Rattle.bits.proofs.Rows.{getD-bigBits, length-bigBits, bigBits-big, big-append}
-use Rattle.bits.proofs.XorRows.{length-xor, getD-xor, big-xor}
+use Rattle.bits.proofs.Rows.{get_or-big_bits, length-big_bits, big_bits-big, big-append}
+use Rattle.bits.proofs.XorRows.{length-xor, get_or-xor, big-xor}
 use Rattle.bits.proofs.Windows.{length_part, window-split, window-low, window-high, window-inside}
 use Rattle.bits.proofs.Packing.{octet-window}
-use Rattle.line.specs.Preamble.{preambleY, preambleZ, afterLevel}
+use Rattle.line.specs.Preamble.{preamble_y, preamble_z, after_level}
 use Rattle.line.proofs.PreambleLaws.{after-0, after-1, length-after}
 use Rattle.aes3_hunt.specs.Hunt.{same, opens, fits, standing, required, differs}
 use Rattle.aes3_hunt.specs.Inner.{mismatches}
@@ -56,16 +56,16 @@ pub length-standing : (r : Row) (p : ℕ) → length (standing r p) ≡ 16
 unfolding standing
 length-standing r p = length-append (part r p 8) (part r (p + 64) 8) ∙ ap₂ (λ (a b : ℕ). a + b) (length_part r p 8) (length_part r (p + 64) 8)
 
-length-z : (l : Bool) → length (afterLevel l preambleZ) ≡ 8
-length-z l = length-after l preambleZ ∙ length-bigBits 8 0b11101000
+length-z : (l : Bool) → length (after_level l preamble_z) ≡ 8
+length-z l = length-after l preamble_z ∙ length-big_bits 8 0b11101000
 
-length-y : (l : Bool) → length (afterLevel l preambleY) ≡ 8
-length-y l = length-after l preambleY ∙ length-bigBits 8 0b11100100
+length-y : (l : Bool) → length (after_level l preamble_y) ≡ 8
+length-y l = length-after l preamble_y ∙ length-big_bits 8 0b11100100
 
 pub length-required : (r : Row) (p : ℕ) → length (required r p) ≡ 16
 unfolding required
 length-required r p =
-    length-append (afterLevel (get_or r (p - 1) false) preambleZ) (afterLevel (get_or r (p + 63) false) preambleY)
+    length-append (after_level (get_or r (p - 1) false) preamble_z) (after_level (get_or r (p + 63) false) preamble_y)
     ∙ ap₂ (λ (a b : ℕ). a + b) (length-z (get_or r (p - 1) false)) (length-y (get_or r (p + 63) false))
 
 pub fits_all : (r : Row) (p : ℕ) → fits r p ≡ same (standing r p) (required r p)
@@ -73,19 +73,19 @@ unfolding fits opens standing required
 fits_all r p =
     let before : p + 64 - 1 ≡ p + 63 = omega arith in
     rw before
-    (sym (same-append (part r p 8) (afterLevel (get_or r (p - 1) false) preambleZ)
-    (part r (p + 64) 8) (afterLevel (get_or r (p + 63) false) preambleY)
+    (sym (same-append (part r p 8) (after_level (get_or r (p - 1) false) preamble_z)
+    (part r (p + 64) 8) (after_level (get_or r (p + 63) false) preamble_y)
     (length_part r p 8 ∙ sym (length-z (get_or r (p - 1) false)))))
 
 -- ---- as numbers
 
 -- Z and Y after their levels
-required-number : (l m : Bool) → big (afterLevel l preambleZ ++ afterLevel m preambleY) ≡ bit_xor 0xE8E4 (digit l * 0xFF00 + digit m * 0xFF)
-unfolding big bigBits
-required-number false false = rw (after-0 preambleZ, after-0 preambleY)
-required-number false true = rw (after-0 preambleZ, after-1 preambleY)
-required-number true false = rw (after-1 preambleZ, after-0 preambleY)
-required-number true true = rw (after-1 preambleZ, after-1 preambleY)
+required-number : (l m : Bool) → big (after_level l preamble_z ++ after_level m preamble_y) ≡ bit_xor 0xE8E4 (digit l * 0xFF00 + digit m * 0xFF)
+unfolding big big_bits
+required-number false false = rw (after-0 preamble_z, after-0 preamble_y)
+required-number false true = rw (after-0 preamble_z, after-1 preamble_y)
+required-number true false = rw (after-1 preamble_z, after-0 preamble_y)
+required-number true true = rw (after-1 preamble_z, after-1 preamble_y)
 
 module _ (r : Row) (p : ℕ) where
   standing-number : window r p 8 * 256 + window r (p + 64) 8 ≡ big (standing r p)
@@ -107,13 +107,13 @@ module _ (r : Row) (p : ℕ) where
   pub differs_at : (k : ℕ) → k < 16 → mismatches r p / 2 ^ (15 - k) % 2 ≡ digit (differs r p k)
   unfolding mismatches differs
   differs_at k h =
-      let row = xorRow (standing r p) (required r p) in
+      let row = xor_row (standing r p) (required r p) in
       let n : length row ≡ 16 = length-xor (standing r p) (required r p) (length-standing r p ∙ sym (length-required r p)) ∙ length-required r p in
       let width : 16 - suc k ≡ 15 - k = omega arith in
-      let back : bigBits 16 (big row) ≡ row = rw n at (bigBits-big row) in
+      let back : big_bits 16 (big row) ≡ row = rw n at (big_bits-big row) in
       let bit : get_or row k false ≡ odd (big row / 2 ^ (15 - k)) =
-      ap (λ (s : Row). get_or s k false) (sym back) ∙ getD-bigBits 16 (big row) k h ∙ ap (λ (i : ℕ). odd (big row / 2 ^ i)) width in
-      sym (ap digit (sym (getD-xor (standing r p) (required r p) k) ∙ bit) ∙ digit-odd (big row / 2 ^ (15 - k)))
+      ap (λ (s : Row). get_or s k false) (sym back) ∙ get_or-big_bits 16 (big row) k h ∙ ap (λ (i : ℕ). odd (big row / 2 ^ i)) width in
+      sym (ap digit (sym (get_or-xor (standing r p) (required r p) k) ∙ bit) ∙ digit-odd (big row / 2 ^ (15 - k)))
 
   -- what the code's test of one digit says
   module _ {d : ℕ} (k : ℕ) (h : k < 16) (e : d ≡ mismatches r p) where

@@ -8,8 +8,8 @@ use Rattle.bits.specs.Pick.{first}
 use Rattle.bits.specs.Row.{Row}
 use Rattle.bits.specs.Pack.{symbols}
 use Rattle.answer.specs.Answer.{Answer, Answer.accepted, Answer.refused}
-use Rattle.aes3_hunt.specs.Hunt.{fits, hunted, cost, total, boundedHunt}
-use Rattle.aes3_hunt.proofs.Meaning.{too_long, long-enough}
+use Rattle.aes3_hunt.specs.Hunt.{fits, hunted, cost, total, bounded_hunt}
+use Rattle.aes3_hunt.proofs.Meaning.{too_long_lem, long-enough}
 use Rattle.aes3_hunt.proofs.Compared.{compared-found, compared-all, compared-none}
 
 -- what the candidates say from p on, below an end
@@ -24,15 +24,15 @@ module _ (line : List ℕ) where
 
   -- ---- an answer with its count
 
-  pub hunt-long : 8192 < length line → (refused 1 0, 0) ≡ boundedHunt line
+  pub hunt-long : 8192 < length line → (refused 1 0, 0) ≡ bounded_hunt line
   hunt-long h =
-      let e : hunted line ≡ refused 1 0 = too_long line h in
+      let e : hunted line ≡ refused 1 0 = too_long_lem line h in
       ap₂ (λ (a : Answer ℕ) (n : ℕ). (a, n)) (sym e) (sym (compared-none line e))
 
-  pub hunt-found : (p n : ℕ) → accepted p ≡ hunted line → n ≡ total (symbols line) p → (accepted p, n) ≡ boundedHunt line
+  pub hunt-found : (p n : ℕ) → accepted p ≡ hunted line → n ≡ total (symbols line) p → (accepted p, n) ≡ bounded_hunt line
   hunt-found p n e f = ap₂ (λ (a : Answer ℕ) (n : ℕ). (a, n)) e (f ∙ sym (compared-found line p (sym e)))
 
-  pub hunt-ends : (n : ℕ) → refused 17 0 ≡ hunted line → n ≡ total (symbols line) (length line * 8 - 72) → (refused 17 0, n) ≡ boundedHunt line
+  pub hunt-ends : (n : ℕ) → refused 17 0 ≡ hunted line → n ≡ total (symbols line) (length line * 8 - 72) → (refused 17 0, n) ≡ bounded_hunt line
   hunt-ends n e f = ap₂ (λ (a : Answer ℕ) (n : ℕ). (a, n)) e (f ∙ sym (compared-all line (sym e)))
 
 -- ---- the candidates before p, together

@@ -9,7 +9,7 @@ use Rattle.bits.specs.Window.{part}
 use Rattle.bits.specs.Pack.{symbols}
 use Rattle.answer.specs.Answer.{Answer, Answer.accepted, Answer.refused}
 use Rattle.answer.specs.Demand.{Demand, Demand.asks, provided}
-use Rattle.line.specs.Preamble.{preambleY, preambleZ, afterLevel}
+use Rattle.line.specs.Preamble.{preamble_y, preamble_z, after_level}
 
 -- whether two rows are the same
 unfoldable pub same : Row → Row → Bool
@@ -20,18 +20,18 @@ same (b ∷ r) (c ∷ s) = not (xor b c) && same r s
 
 -- whether the eight symbols at p are a preamble after symbol p - 1
 unfoldable pub opens : Row → ℕ → Row → Bool
-opens r p preamble = same (part r p 8) (afterLevel (get_or r (p - 1) false) preamble)
+opens r p preamble = same (part r p 8) (after_level (get_or r (p - 1) false) preamble)
 
 unfoldable pub fits : Row → ℕ → Bool
-fits r p = opens r p preambleZ && opens r (p + 64) preambleY
+fits r p = opens r p preamble_z && opens r (p + 64) preamble_y
 
 -- at most 8,192 octets (1); then the smallest candidate that fits, else 17
-abbrev pub huntDemands : List ℕ → List Demand
-huntDemands line = asks 1 0 (leb (length line) 8192) ∷ []
+abbrev pub hunt_demands : List ℕ → List Demand
+hunt_demands line = asks 1 0 (leb (length line) 8192) ∷ []
 
 unfoldable pub hunted : List ℕ → Answer ℕ
 hunted line =
-    provided (huntDemands line)
+    provided (hunt_demands line)
     (first (fits (symbols line)) 1 (length line * 8 - 72) (λ p. accepted p) (refused 17 0))
 
 -- ---- the symbols that are compared
@@ -42,7 +42,7 @@ standing r p = part r p 8 ++ part r (p + 64) 8
 
 -- those that are required there: Z after symbol p - 1, Y after symbol p + 63
 unfoldable pub required : Row → ℕ → Row
-required r p = afterLevel (get_or r (p - 1) false) preambleZ ++ afterLevel (get_or r (p + 63) false) preambleY
+required r p = after_level (get_or r (p - 1) false) preamble_z ++ after_level (get_or r (p + 63) false) preamble_y
 
 -- whether symbol k of the sixteen differs from the one required
 unfoldable pub differs : Row → ℕ → ℕ → Bool
@@ -67,8 +67,8 @@ unfoldable pub compared : List ℕ → ℕ
 compared line = total (symbols line) (reached (length line * 8 - 72) (hunted line))
 
 -- the hunt: the answer, found or not, and the number of symbols compared
-abbrev pub boundedHunt : List ℕ → Answer ℕ × ℕ
-boundedHunt line = (hunted line, compared line)
+abbrev pub bounded_hunt : List ℕ → Answer ℕ × ℕ
+bounded_hunt line = (hunted line, compared line)
 
 -- ---- what the answer means
 
@@ -76,11 +76,11 @@ boundedHunt line = (hunted line, compared line)
 pub record Start (line : List ℕ) (p : ℕ) : Type 0 where
   pub from : 1 ≤ p
   pub to : p + 72 ≤ length line * 8
-  pub z : part (symbols line) p 8 ≡ afterLevel (get_or (symbols line) (p - 1) false) preambleZ
-  pub y : part (symbols line) (p + 64) 8 ≡ afterLevel (get_or (symbols line) (p + 63) false) preambleY
+  pub z : part (symbols line) p 8 ≡ after_level (get_or (symbols line) (p - 1) false) preamble_z
+  pub y : part (symbols line) (p + 64) 8 ≡ after_level (get_or (symbols line) (p + 63) false) preamble_y
 
 -- the answers that are right for a line: the smallest start, 17 where there is none, 1 for a line that is too long
 pub data Right (line : List ℕ) : Answer ℕ → Type 0 where
   smallest : {p : ℕ} → length line ≤ 8192 → Start line p → ((q : ℕ) → Start line q → p ≤ q) → Right line (accepted p)
   none : length line ≤ 8192 → ((q : ℕ) → Start line q → ⊥) → Right line (refused 17 0)
-  tooLong : 8192 < length line → Right line (refused 1 0)
+  too_long : 8192 < length line → Right line (refused 1 0)

@@ -5,11 +5,11 @@ ghost use Rattle.std.specs.Prelude.{◌≡◌, ◌+◌, ◌*◌, ◌^◌, ◌≤
 ghost use Rattle.bits.specs.Window.{window};
 ghost use Rattle.bits.specs.Pack.{symbols};
 ghost use Rattle.answer.specs.Answer.{Answer.accepted, Answer.refused, verdict, rewritten};
-ghost use Rattle.answer.specs.Said.{verdictSaid};
+ghost use Rattle.answer.specs.Said.{verdict_said};
 ghost use Rattle.aes3_hunt.specs.Align.{aligned};
-ghost use Rattle.aes3_hunt.specs.Hunt.{boundedHunt};
+ghost use Rattle.aes3_hunt.specs.Hunt.{bounded_hunt};
 ghost use Rattle.aes3_hunt.specs.Inner.{mismatches};
-ghost use Rattle.aes3_hunt.specs.Said.{huntSaid};
+ghost use Rattle.aes3_hunt.specs.Said.{hunt_said};
 
 use answer::{NumberAnswer, Verdict};
 use line::load;
@@ -48,7 +48,7 @@ fn compare(line: &[u8], p: usize) -> u32
 
 // A refusal, after so many symbols were compared.
 fn refused(number: u32, compared: u32) -> HuntAnswer
-    ensures { huntSaid result ≡ (refused number 0, compared) }
+    ensures { hunt_said result ≡ (refused number 0, compared) }
 {
     HuntAnswer {
         start: NumberAnswer::Refused { number, place: 0 },
@@ -58,7 +58,7 @@ fn refused(number: u32, compared: u32) -> HuntAnswer
 
 // More than 8,192 octets, of which none is looked at.
 fn too_long() -> HuntAnswer
-    ensures { huntSaid result ≡ (refused 1 0, 0) }
+    ensures { hunt_said result ≡ (refused 1 0, 0) }
 {
     refused(1, 0)
 }
@@ -66,7 +66,7 @@ fn too_long() -> HuntAnswer
 // A block that starts at p, whose sixteen symbols were compared after so many others.
 fn found(p: usize, before: u32) -> HuntAnswer
     requires { (p < 2 ^ 32) × (before + 16 < 2 ^ 32) }
-    ensures { huntSaid result ≡ (accepted p, before + 16) }
+    ensures { hunt_said result ≡ (accepted p, before + 16) }
 {
     HuntAnswer {
         start: NumberAnswer::Number(p as u32),
@@ -77,7 +77,7 @@ fn found(p: usize, before: u32) -> HuntAnswer
 // The smallest p at which a block starts, in symbols from the line's first on: refusal 1 for more than 8,192 octets, 17
 // where no block starts. Beside it the number of symbols that were compared.
 pub fn find_start(line: &[u8]) -> HuntAnswer
-    ensures { huntSaid result ≡ boundedHunt line.now }
+    ensures { hunt_said result ≡ bounded_hunt line.now }
 {
     if 8192 < line.len() {
         return too_long();
@@ -104,7 +104,7 @@ pub fn find_start(line: &[u8]) -> HuntAnswer
 // Copies the 3,072 octets of symbols from a position on: refusal 1 for another room than that and for a line of more
 // than 8,192 octets, 2 where fewer symbols are left. A refusal leaves the block as it was.
 pub fn align(line: &[u8], position: u32, block: &mut [u8]) -> Verdict
-    ensures result_value { verdictSaid result ≡ verdict (aligned line.now position (length block.old)) }
+    ensures result_value { verdict_said result ≡ verdict (aligned line.now position (length block.old)) }
     ensures block_after { block.new ≡ rewritten (aligned line.now position (length block.old)) block.old }
 {
     if block.len() != 3072 {

@@ -18,12 +18,12 @@ use Rattle.bits.proofs.Bounds.{below-take, below-drop}
 use Rattle.bits.proofs.Inverting.{length-map, take-map, drop-map, not-twice, big-same, symbols-inverted}
 use Rattle.line.specs.Biphase.{left}
 use Rattle.line.proofs.BiphaseLaws.{held-not, changing-not, left_not}
-use Rattle.aes3_line.specs.Subframe.{preamble, bodyHeld, subframeRead}
-use Rattle.line.specs.Preamble.{afterLevel}
+use Rattle.aes3_line.specs.Subframe.{preamble, body_held, subframe_read}
+use Rattle.line.specs.Preamble.{after_level}
 use Rattle.line.specs.Polarity.{inverted}
 use Rattle.line.proofs.PreambleLaws.{after-0, after-1}
 use Rattle.line.proofs.Inverted.{inverted-octets}
-use Rattle.aes3_line.specs.Line.{bodiesFrom, levelBefore, bodiesOn}
+use Rattle.aes3_line.specs.Line.{bodies_from, level_before, bodies_on}
 use Rattle.aes3_line.proofs.Preambles.{length-preamble, preamble-not}
 
 -- ---- a subframe
@@ -39,8 +39,8 @@ same_not r s n =
     (λ e. ap big (sym (not-twice r) ∙ ap (map not) (big-same (map not r) (map not s) (length-map not r ∙ n ∙ sym (length-map not s)) e) ∙ not-twice s))
     (λ e. ap (λ (t : Row). big (map not t)) (big-same r s n e))
 
-pub read-not : (i : ℕ) (l : Bool) (s : Row) → 8 ≤ length s → subframeRead i (not l) (map not s) ≡ subframeRead i l s
-unfolding subframeRead bodyHeld
+pub read-not : (i : ℕ) (l : Bool) (s : Row) → 8 ≤ length s → subframe_read i (not l) (map not s) ≡ subframe_read i l s
+unfolding subframe_read body_held
 read-not i l s h =
     let n : length (take 8 s) ≡ length (preamble i l) = length-take-le 8 s h ∙ sym (length-preamble i l) in
     rw (
@@ -56,7 +56,7 @@ read-not i l s h =
     )
 
 -- symbols are read after a level as what stands there after level 0
-pub read-after : (i : ℕ) (l : Bool) (s : Row) → 8 ≤ length s → subframeRead i false (afterLevel l s) ≡ subframeRead i l s
+pub read-after : (i : ℕ) (l : Bool) (s : Row) → 8 ≤ length s → subframe_read i false (after_level l s) ≡ subframe_read i l s
 read-after i true s h = rw after-1 (read-not i true s h)
 read-after i false s h = rw after-0 refl
 
@@ -65,8 +65,8 @@ read-after i false s h = rw after-0 refl
 abbrev opposite : List ℕ → List ℕ
 opposite os = map (λ o. 255 - o) os
 
-from-not : (n i : ℕ) (l : Bool) (os : List ℕ) → length os ≡ n * 8 → Below 256 os → bodiesFrom n i (not l) (opposite os) ≡ bodiesFrom n i l os
-unfolding bodiesFrom
+from-not : (n i : ℕ) (l : Bool) (os : List ℕ) → length os ≡ n * 8 → Below 256 os → bodies_from n i (not l) (opposite os) ≡ bodies_from n i l os
+unfolding bodies_from
 from-not zero i l os len h = refl
 from-not (suc n) i l os len h =
     let f = take 8 os in
@@ -85,10 +85,10 @@ first-not : (r : Row) → 0 < length r → get_or (map not r) 0 true ≡ not (ge
 first-not [] h = absurd (omega arith)
 first-not (b ∷ r) h = refl
 
-pub line-not : (os : List ℕ) → length os ≡ 3072 → Below 256 os → bodiesOn (inverted os) ≡ bodiesOn os
-unfolding bodiesOn levelBefore
+pub line-not : (os : List ℕ) → length os ≡ 3072 → Below 256 os → bodies_on (inverted os) ≡ bodies_on os
+unfolding bodies_on level_before
 line-not os n h =
     rw (inverted-octets os h)
-    (ap (λ (l : Bool). bodiesFrom 384 0 (not l) (opposite os))
+    (ap (λ (l : Bool). bodies_from 384 0 (not l) (opposite os))
     (ap (λ (r : Row). get_or r 0 true) (symbols-inverted os h) ∙ first-not (symbols os) (omega (arith, length-chain (highest 8) os)))
     ∙ from-not 384 0 (not (get_or (symbols os) 0 true)) os n h)

@@ -4,14 +4,14 @@ use Rattle.std.specs.Prelude.{ℕ, zero, suc, Bool, true, not, List, [], ◌∷�
 use Rattle.bits.specs.Pack.{octets, symbols}
 use Rattle.answer.specs.Answer.{Answer, Answer.accepted, Answer.refused}
 use Rattle.line.specs.Biphase.{left}
-use Rattle.aes3_line.specs.Subframe.{subframe, subframeRead}
+use Rattle.aes3_line.specs.Subframe.{subframe, subframe_read}
 
 -- ---- writing
 
 -- the octets of bodies as subframes from number i on, after a level
-unfoldable pub lineFrom : ℕ → Bool → List ℕ → List ℕ
-lineFrom i l [] = []
-lineFrom i l (b ∷ bs) = octets 8 (subframe i l b) ++ lineFrom (suc i) (left l (subframe i l b)) bs
+unfoldable pub line_from : ℕ → Bool → List ℕ → List ℕ
+line_from i l [] = []
+line_from i l (b ∷ bs) = octets 8 (subframe i l b) ++ line_from (suc i) (left l (subframe i l b)) bs
 
 -- ---- reading
 
@@ -22,15 +22,15 @@ leading (Answer.accepted b) (Answer.refused n p) = refused n p
 leading (Answer.refused n p) rest = refused n p
 
 -- n subframes from number i on, after a level
-unfoldable pub bodiesFrom : ℕ → ℕ → Bool → List ℕ → Answer (List ℕ)
-bodiesFrom zero i l line = accepted []
-bodiesFrom (suc n) i l line =
-    leading (subframeRead i l (symbols (take 8 line))) (bodiesFrom n (suc i) (left l (symbols (take 8 line))) (drop 8 line))
+unfoldable pub bodies_from : ℕ → ℕ → Bool → List ℕ → Answer (List ℕ)
+bodies_from zero i l line = accepted []
+bodies_from (suc n) i l line =
+    leading (subframe_read i l (symbols (take 8 line))) (bodies_from n (suc i) (left l (symbols (take 8 line))) (drop 8 line))
 
 -- the level before a block, as its reader takes it: the opposite of the first symbol
-unfoldable pub levelBefore : List ℕ → Bool
-levelBefore line = not (get_or (symbols line) 0 true)
+unfoldable pub level_before : List ℕ → Bool
+level_before line = not (get_or (symbols line) 0 true)
 
 -- the bodies of a block
-unfoldable pub bodiesOn : List ℕ → Answer (List ℕ)
-bodiesOn line = bodiesFrom 384 0 (levelBefore line) line
+unfoldable pub bodies_on : List ℕ → Answer (List ℕ)
+bodies_on line = bodies_from 384 0 (level_before line) line

@@ -8,7 +8,7 @@ use Rattle.bits.proofs.Xor.{against, against-twice, against-out}
 use Rattle.bits.specs.Row.{big}
 use Rattle.aes3_line.specs.Subframe.{due}
 use Rattle.aes3_line.proofs.Preambles.{due-lt}
-use Rattle.aes3_read.specs.Inner.{dueChanges}
+use Rattle.aes3_read.specs.Inner.{due_changes}
 
 -- the changes of eight symbols tell the symbols
 abbrev undone : ℕ → ℕ
@@ -20,7 +20,7 @@ told t h = ap (λ (y : ℕ). against 4 (against 2 y)) (against-twice 1 t) ∙ ap
 same-octet : (t d : ℕ) → t < 256 → d < 256 → bit_xor t (t / 2) ≡ bit_xor d (d / 2) → t ≡ d
 same-octet t d ht hd e = sym (told t ht) ∙ ap undone e ∙ told d hd
 
-module _ (i w : ℕ) (small : w < 2 ^ 64) (e : bit_and (bit_xor w (w / 2)) 0xFFAAAAAAAAAAAAAA ≡ dueChanges (big (due i))) where
+module _ (i w : ℕ) (small : w < 2 ^ 64) (e : bit_and (bit_xor w (w / 2)) 0xFFAAAAAAAAAAAAAA ≡ due_changes (big (due i))) where
   abbrev x : ℕ
   x = bit_xor w (w / 2)
 
@@ -36,7 +36,7 @@ module _ (i w : ℕ) (small : w < 2 ^ 64) (e : bit_and (bit_xor w (w / 2)) 0xFFA
   parts : high * 2 ^ 56 + low ≡ x
   parts = omega arith
 
-  both : bit_and high 255 * 2 ^ 56 + bit_and low 0xAAAAAAAAAAAAAA ≡ dueChanges (big (due i))
+  both : bit_and high 255 * 2 ^ 56 + bit_and low 0xAAAAAAAAAAAAAA ≡ due_changes (big (due i))
   both =
       sym (and_block 56 high 255 low 0xAAAAAAAAAAAAAA (omega arith) (omega arith))
       ∙ ap (λ (y : ℕ). bit_and y 0xFFAAAAAAAAAAAAAA) parts ∙ e

@@ -2,12 +2,12 @@
 -- nothing.
 use mathlib.Core.Path.{◌≡◌, ap}
 use Prim.Native.Nat.{ℕ}
-use Rattle.aes3_read.specs.Reader.{blockSaid}
+use Rattle.aes3_read.specs.Reader.{block_said}
 use Rattle.aes3_read.specs.declared.ReadAnswer.{ReadAnswer}
 use Rattle.aes3_read.specs.declared.ReadAnswer.TheVariants.{Read}
 use Rattle.aes3_read.specs.declared.ReadAnswer.TheVariants.{Refused as NotRead}
 
-pub block-said-once : (a b : ReadAnswer) → blockSaid a ≡ blockSaid b → a ≡ b
+pub block-said-once : (a b : ReadAnswer) → block_said a ≡ block_said b → a ≡ b
 block-said-once (Read x y) (Read x' y') e =
     let f : ◌≡◌ {A = ℕ × ℕ} (x, y) (x', y') = cc in
     ap (λ (t : ℕ × ℕ). Read t.0 t.1) f

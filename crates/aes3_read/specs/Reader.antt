@@ -3,27 +3,27 @@ use Rattle.std.specs.Prelude.{ℕ, List, [], ◌∷◌, eqb, length}
 use Rattle.bits.specs.Row.{digit}
 use Rattle.answer.specs.Answer.{Answer, Answer.accepted, Answer.refused}
 use Rattle.answer.specs.Demand.{Demand, Demand.asks, provided}
-use Rattle.block.specs.Side.{sideLength}
+use Rattle.block.specs.Side.{side_length}
 use Rattle.block.specs.Block.{side_of}
-use Rattle.block.specs.Check.{statusRight}
-use Rattle.aes3_line.specs.Line.{bodiesOn}
+use Rattle.block.specs.Check.{status_right}
+use Rattle.aes3_line.specs.Line.{bodies_on}
 use Rattle.aes3_read.specs.declared.ReadAnswer.{ReadAnswer}
 use Rattle.aes3_read.specs.declared.ReadAnswer.TheVariants.{Read}
 use Rattle.aes3_read.specs.declared.ReadAnswer.TheVariants.{Refused as NotRead}
 
 -- the lengths of line, samples and side table (1), then subframe by subframe 7, 8; on acceptance the bodies, whose
 -- samples and side table fill the buffers
-abbrev pub readDemands : List ℕ → ℕ → ℕ → List Demand
-readDemands line samples side = asks 1 0 (eqb (length line) 3072) ∷ asks 1 0 (eqb samples 384) ∷ asks 1 0 (eqb side sideLength) ∷ []
+abbrev pub read_demands : List ℕ → ℕ → ℕ → List Demand
+read_demands line samples side = asks 1 0 (eqb (length line) 3072) ∷ asks 1 0 (eqb samples 384) ∷ asks 1 0 (eqb side side_length) ∷ []
 
-unfoldable pub readAnswer : List ℕ → ℕ → ℕ → Answer (List ℕ)
-readAnswer line samples side = provided (readDemands line samples side) (bodiesOn line)
+unfoldable pub read_answer : List ℕ → ℕ → ℕ → Answer (List ℕ)
+read_answer line samples side = provided (read_demands line samples side) (bodies_on line)
 
 -- what is said of the bodies: for each channel 1 where its CRCC is right, else 0; a wrong one is no refusal
 abbrev pub crccs : List ℕ → ℕ × ℕ
-crccs bodies = (digit (statusRight (side_of bodies) 0), digit (statusRight (side_of bodies) 1))
+crccs bodies = (digit (status_right (side_of bodies) 0), digit (status_right (side_of bodies) 1))
 
 -- what the enum says
-abbrev pub blockSaid : ReadAnswer → Answer (ℕ × ℕ)
-blockSaid (Read a b) = accepted (a, b)
-blockSaid (NotRead n p) = refused n p
+abbrev pub block_said : ReadAnswer → Answer (ℕ × ℕ)
+block_said (Read a b) = accepted (a, b)
+block_said (NotRead n p) = refused n p

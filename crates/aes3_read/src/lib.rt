@@ -1,15 +1,15 @@
 // Reading a block from an AES3 line: 3,072 octets as 384 samples and a side table.
 ghost use Rattle.std.specs.Prelude.{◌≡◌, false, ◌<◌, length};
-ghost use Rattle.bits.specs.Row.{odd, digit, bigBits, little, big};
+ghost use Rattle.bits.specs.Row.{odd, digit, big_bits, little, big};
 ghost use Rattle.answer.specs.Answer.{mapped, verdict, after};
-ghost use Rattle.answer.specs.Said.{verdictSaid, numberSaid};
+ghost use Rattle.answer.specs.Said.{verdict_said, number_said};
 ghost use Rattle.line.specs.Biphase.{held};
-ghost use Rattle.block.specs.Block.{samplesOf, side_of};
-ghost use Rattle.block.specs.Check.{statusRight};
-ghost use Rattle.aes3_line.specs.Subframe.{due, subframeRead};
-ghost use Rattle.aes3_line.specs.Line.{bodiesOn};
-ghost use Rattle.aes3_read.specs.Reader.{readAnswer, crccs, blockSaid};
-ghost use Rattle.aes3_read.specs.Inner.{heldTable, decoded, dueChanges};
+ghost use Rattle.block.specs.Block.{samples_of, side_of};
+ghost use Rattle.block.specs.Check.{status_right};
+ghost use Rattle.aes3_line.specs.Subframe.{due, subframe_read};
+ghost use Rattle.aes3_line.specs.Line.{bodies_on};
+ghost use Rattle.aes3_read.specs.Reader.{read_answer, crccs, block_said};
+ghost use Rattle.aes3_read.specs.Inner.{held_table, decoded, due_changes};
 
 mod tables;
 
@@ -26,16 +26,16 @@ pub enum ReadAnswer {
 
 // The four bits that the slots of an octet hold.
 fn four(table: &[u8], o: u8) -> u32
-    requires { table.now ≡ heldTable }
-    ensures { (result ≡ little (held (bigBits 8 o))) × (result < 16) }
+    requires { table.now ≡ held_table }
+    ensures { (result ≡ little (held (big_bits 8 o))) × (result < 16) }
 {
     table[o as usize] as u32
 }
 
 // The 28 bits that slots 4 to 31 of a subframe's 64 symbols hold.
 fn read_slots(table: &[u8], w: u64) -> u32
-    requires { table.now ≡ heldTable }
-    ensures { (result ≡ little (held (bigBits 56 w))) × (result < 268435456) }
+    requires { table.now ≡ held_table }
+    ensures { (result ≡ little (held (big_bits 56 w))) × (result < 268435456) }
 {
     let a = four(table, (w / 0x1_0000_0000_0000 % 256) as u8);
     let b = four(table, (w / 0x100_0000_0000 % 256) as u8);
@@ -49,7 +49,7 @@ fn read_slots(table: &[u8], w: u64) -> u32
 
 // The changes of level that open subframe i, of its preamble all and of each slot the one at its first symbol.
 fn due_changes(i: usize) -> u64
-    ensures { result ≡ dueChanges (big (due i)) }
+    ensures { result ≡ due_changes (big (due i)) }
 {
     if i == 0 {
         return 0x9CAA_AAAA_AAAA_AAAA;
@@ -63,8 +63,8 @@ fn due_changes(i: usize) -> u64
 // 64 symbols read as subframe i after level 0: its body, even or odd. Preamble and slots are judged by one test; which of
 // them is wrong is looked for only after it.
 fn read_word(table: &[u8], i: usize, w: u64) -> NumberAnswer
-    requires { (table.now ≡ heldTable) × (i < 384) }
-    ensures { numberSaid result ≡ subframeRead i false (bigBits 64 w) }
+    requires { (table.now ≡ held_table) × (i < 384) }
+    ensures { number_said result ≡ subframe_read i false (big_bits 64 w) }
 {
     if (w ^ (w / 2)) & 0xFFAA_AAAA_AAAA_AAAA == due_changes(i) {
         return NumberAnswer::Number(read_slots(table, w) * 16);
@@ -88,15 +88,15 @@ fn read_word(table: &[u8], i: usize, w: u64) -> NumberAnswer
 
 // 64 symbols read as subframe i after symbols whose last is the lowest bit of `before`.
 fn read_subframe(table: &[u8], i: usize, before: u64, w: u64) -> NumberAnswer
-    requires { (table.now ≡ heldTable) × (i < 384) }
-    ensures { numberSaid result ≡ subframeRead i (odd before) (bigBits 64 w) }
+    requires { (table.now ≡ held_table) × (i < 384) }
+    ensures { number_said result ≡ subframe_read i (odd before) (big_bits 64 w) }
 {
     read_word(table, i, aes3_line::after_level((before % 2) as u32, w))
 }
 
 // A subframe's answer without its body.
 fn without_body(answer: NumberAnswer) -> Verdict
-    ensures { verdictSaid result ≡ verdict (numberSaid answer) }
+    ensures { verdict_said result ≡ verdict (number_said answer) }
 {
     match answer {
         NumberAnswer::Number(_) => Verdict::Accepted,
@@ -108,8 +108,8 @@ fn without_body(answer: NumberAnswer) -> Verdict
 // a subframe is the last symbol of the one before, as it stands on the line: that one's word is carried on, since an
 // octet loaded by itself would keep the word from being loaded whole.
 fn decode(table: &[u8], line: &[u8], bodies: &mut [u32]) -> Verdict
-    requires { (table.now ≡ heldTable) × (length line.now ≡ 3072) × (length bodies.old ≡ 384) }
-    ensures { decoded result bodies.new ≡ bodiesOn line.now }
+    requires { (table.now ≡ held_table) × (length line.now ≡ 3072) × (length bodies.old ≡ 384) }
+    ensures { decoded result bodies.new ≡ bodies_on line.now }
 {
     let start = 1 - line[0] as u64 / 128;
     let mut before = start;
@@ -132,7 +132,7 @@ fn decode(table: &[u8], line: &[u8], bodies: &mut [u32]) -> Verdict
 // The same with the table laid out.
 fn decode_line(line: &[u8], bodies: &mut [u32]) -> Verdict
     requires { (length line.now ≡ 3072) × (length bodies.old ≡ 384) }
-    ensures { decoded result bodies.new ≡ bodiesOn line.now }
+    ensures { decoded result bodies.new ≡ bodies_on line.now }
 {
     let table = HELD;
     decode(&table, line, bodies)
@@ -140,7 +140,7 @@ fn decode_line(line: &[u8], bodies: &mut [u32]) -> Verdict
 
 // 1 where the CRCC of a channel is right, else 0.
 fn crcc(side: &[u8], channel: usize) -> u32
-    ensures { result ≡ digit (statusRight side.now channel) }
+    ensures { result ≡ digit (status_right side.now channel) }
 {
     if block::status_right(side, channel) {
         return 1;
@@ -151,9 +151,9 @@ fn crcc(side: &[u8], channel: usize) -> u32
 // Reads a block into samples and side table, and says whether the CRCC of each channel is right. A refusal leaves both
 // buffers as they were.
 pub fn read_block(line: &[u8], samples: &mut [i32], side: &mut [u8]) -> ReadAnswer
-    ensures result_value { blockSaid result ≡ mapped crccs (readAnswer line.now (length samples.old) (length side.old)) }
-    ensures samples_after { samples.new ≡ after samplesOf (readAnswer line.now (length samples.old) (length side.old)) samples.old }
-    ensures side_after { side.new ≡ after side_of (readAnswer line.now (length samples.old) (length side.old)) side.old }
+    ensures result_value { block_said result ≡ mapped crccs (read_answer line.now (length samples.old) (length side.old)) }
+    ensures samples_after { samples.new ≡ after samples_of (read_answer line.now (length samples.old) (length side.old)) samples.old }
+    ensures side_after { side.new ≡ after side_of (read_answer line.now (length samples.old) (length side.old)) side.old }
 {
     if line.len() != 3072 {
         return ReadAnswer::Refused {

@@ -13,31 +13,31 @@ use Rattle.bits.specs.Listed.{listed}
 use Rattle.bits.proofs.Digits.{digit-cases, odd-mod}
 use Rattle.bits.proofs.Lists.{length-listed}
 use Rattle.bits.proofs.XorRows.{odd-xor}
-use Rattle.aes3_write.specs.Inner.{inverter, inverters, invertersTable}
+use Rattle.aes3_write.specs.Inner.{inverter, inverters, inverters_table}
 
 -- ---- the table
 
 unfoldable pub invertings : List ℕ
 invertings = 0 ∷ 0xFF ∷ 0xFFFFFF ∷ 0xFFFF00 ∷ 0xFFFFFFFFFF ∷ 0xFFFFFFFF00 ∷ 0xFFFF000000 ∷ 0xFFFF0000FF ∷ []
 
-pub invertings-right : invertings ≡ invertersTable
-unfolding invertings invertersTable inverters listed xor
+pub invertings-right : invertings ≡ inverters_table
+unfolding invertings inverters_table inverters listed xor
 invertings-right = refl
 
-pub length-inverters : length invertersTable ≡ 8
-unfolding invertersTable
+pub length-inverters : length inverters_table ≡ 8
+unfolding inverters_table
 length-inverters = length-listed 0 8 (λ x. inverters (odd (x / 4)) (odd (x / 2)) (odd x))
 
-at-three : (x y z : ℕ) → x < 2 → y < 2 → z < 2 → get_or invertersTable (x * 4 + y * 2 + z) 0 ≡ inverters (odd x) (odd y) (odd z)
-unfolding invertersTable listed
+at-three : (x y z : ℕ) → x < 2 → y < 2 → z < 2 → get_or inverters_table (x * 4 + y * 2 + z) 0 ≡ inverters (odd x) (odd y) (odd z)
+unfolding inverters_table listed
 at-three x y z hx hy hz =
-    digit-cases (λ (x : ℕ). get_or invertersTable (x * 4 + y * 2 + z) 0 ≡ inverters (odd x) (odd y) (odd z))
-    (digit-cases (λ (y : ℕ). get_or invertersTable (0 * 4 + y * 2 + z) 0 ≡ inverters false (odd y) (odd z))
-    (digit-cases (λ (z : ℕ). get_or invertersTable (0 * 4 + 0 * 2 + z) 0 ≡ inverters false false (odd z)) refl refl z hz)
-    (digit-cases (λ (z : ℕ). get_or invertersTable (0 * 4 + 1 * 2 + z) 0 ≡ inverters false true (odd z)) refl refl z hz) y hy)
-    (digit-cases (λ (y : ℕ). get_or invertersTable (1 * 4 + y * 2 + z) 0 ≡ inverters true (odd y) (odd z))
-    (digit-cases (λ (z : ℕ). get_or invertersTable (1 * 4 + 0 * 2 + z) 0 ≡ inverters true false (odd z)) refl refl z hz)
-    (digit-cases (λ (z : ℕ). get_or invertersTable (1 * 4 + 1 * 2 + z) 0 ≡ inverters true true (odd z)) refl refl z hz) y hy)
+    digit-cases (λ (x : ℕ). get_or inverters_table (x * 4 + y * 2 + z) 0 ≡ inverters (odd x) (odd y) (odd z))
+    (digit-cases (λ (y : ℕ). get_or inverters_table (0 * 4 + y * 2 + z) 0 ≡ inverters false (odd y) (odd z))
+    (digit-cases (λ (z : ℕ). get_or inverters_table (0 * 4 + 0 * 2 + z) 0 ≡ inverters false false (odd z)) refl refl z hz)
+    (digit-cases (λ (z : ℕ). get_or inverters_table (0 * 4 + 1 * 2 + z) 0 ≡ inverters false true (odd z)) refl refl z hz) y hy)
+    (digit-cases (λ (y : ℕ). get_or inverters_table (1 * 4 + y * 2 + z) 0 ≡ inverters true (odd y) (odd z))
+    (digit-cases (λ (z : ℕ). get_or inverters_table (1 * 4 + 0 * 2 + z) 0 ≡ inverters true false (odd z)) refl refl z hz)
+    (digit-cases (λ (z : ℕ). get_or inverters_table (1 * 4 + 1 * 2 + z) 0 ≡ inverters true true (odd z)) refl refl z hz) y hy)
     x hx
 
 -- ---- the lowest bits of three entries
@@ -72,14 +72,14 @@ module _ (u : ℕ) where
   pub lows-lt : bit_and u 0x100010001 < 0x100010002
   lows-lt = omega (arith, lows)
 
-  pub inverters-at : get_or invertersTable (bit_and u 0x100010001 * 0x80010002 / 0x80000000 % 8) 0
+  pub inverters-at : get_or inverters_table (bit_and u 0x100010001 * 0x80010002 / 0x80000000 % 8) 0
       ≡ inverters (odd (u / 2 ^ 32)) (odd (u / 2 ^ 16)) (odd u)
   inverters-at =
       let x = u / 2 ^ 32 % 2 in
       let y = u / 2 ^ 16 % 2 in
       let z = u % 2 in
-      ap (λ (n : ℕ). get_or invertersTable (n * 0x80010002 / 0x80000000 % 8) 0) lows
-      ∙ ap (λ (n : ℕ). get_or invertersTable n 0) (gathered x y z (omega arith) (omega arith) (omega arith))
+      ap (λ (n : ℕ). get_or inverters_table (n * 0x80010002 / 0x80000000 % 8) 0) lows
+      ∙ ap (λ (n : ℕ). get_or inverters_table n 0) (gathered x y z (omega arith) (omega arith) (omega arith))
       ∙ at-three x y z (omega arith) (omega arith) (omega arith)
       ∙ rw (odd-mod (u / 2 ^ 32), odd-mod (u / 2 ^ 16), odd-mod u)
 
@@ -105,21 +105,21 @@ inverter-8-lt false = omega arith
 abbrev pub second_of : ℕ → ℕ → ℕ
 second_of a b = bit_xor b (inverter 16 (odd a))
 
-abbrev pub thirdOf : ℕ → ℕ → ℕ → ℕ
-thirdOf a b c = bit_xor c (inverter 16 (odd (second_of a b)))
+abbrev pub third_of : ℕ → ℕ → ℕ → ℕ
+third_of a b c = bit_xor c (inverter 16 (odd (second_of a b)))
 
-abbrev pub fourthOf : ℕ → ℕ → ℕ → ℕ → ℕ
-fourthOf a b c d = bit_xor d (inverter 16 (odd (thirdOf a b c)))
+abbrev pub fourth_of : ℕ → ℕ → ℕ → ℕ → ℕ
+fourth_of a b c d = bit_xor d (inverter 16 (odd (third_of a b c)))
 
 module _ (a b c d : ℕ) (hb : b < 2 ^ 16) (hc : c < 2 ^ 16) (hd : d < 2 ^ 16) where
   abbrev second : ℕ
   second = second_of a b
 
   abbrev third : ℕ
-  third = thirdOf a b c
+  third = third_of a b c
 
   abbrev fourth : ℕ
-  fourth = fourthOf a b c d
+  fourth = fourth_of a b c d
 
   odd-second : odd second ≡ xor (odd b) (odd a)
   odd-second = odd-xor b (inverter 16 (odd a)) ∙ ap (xor (odd b)) (odd-inverter (odd a))

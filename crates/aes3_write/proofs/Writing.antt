@@ -8,37 +8,37 @@ use native.Mathlib.Omega.{arith}
 use lib.Bits.{bit_xor, xor_zero_r}
 use lib.Count.{ones, ones_cat}
 use lib.ListN.{length, get_or, set, length-append}
-use Rattle.bits.specs.Row.{Row, odd, bits, bigBits, big}
+use Rattle.bits.specs.Row.{Row, odd, bits, big_bits, big}
 use Rattle.bits.specs.Window.{window}
 use Rattle.bits.specs.Pack.{pack, octets}
-use Rattle.bits.proofs.Rows.{length-bits, length-bigBits, bits-mod, big_lt, big-append, big-bigBits}
+use Rattle.bits.proofs.Rows.{length-bits, length-big_bits, bits-mod, big_lt, big-append, big-big_bits}
 use Rattle.bits.proofs.Windows.{part-all, part-drop, window-inside}
-use Rattle.line.specs.Preamble.{afterLevel}
-use Rattle.line.specs.Biphase.{biphase, biphaseTable}
-use Rattle.line.proofs.PreambleLaws.{after-0, word_after}
+use Rattle.line.specs.Preamble.{after_level}
+use Rattle.line.specs.Biphase.{biphase, biphase_table}
+use Rattle.line.proofs.PreambleLaws.{after-0, word_after_lem}
 use Rattle.line.proofs.BiphaseLaws.{length-biphase}
 use Rattle.line.proofs.BiphaseByOctet.{entry_lt, entry-after}
 use Rattle.line.proofs.BiphaseOctets.{eight-first}
 use Rattle.line.proofs.BiphaseWords.{big-biphase}
-use Rattle.subframe.specs.Body.{slots, parityOf}
+use Rattle.subframe.specs.Body.{slots, parity_of}
 use Rattle.subframe.proofs.BodyLaws.{parity-lt, parity-ones, slots-bits}
 use Rattle.aes3_line.specs.Subframe.{due, subframe}
 use Rattle.aes3_line.proofs.Preambles.{due-row, subframe-after}
-use Rattle.aes3_write.specs.Inner.{opened, wordAfter, inverter, inverters, bodyWith}
+use Rattle.aes3_write.specs.Inner.{opened, word_after, inverter, inverters, body_with}
 use Rattle.aes3_write.proofs.Flags.{laid-with}
-use Rattle.aes3_write.proofs.Inverting.{second_of, thirdOf, fourthOf, side_by_side}
+use Rattle.aes3_write.proofs.Inverting.{second_of, third_of, fourth_of, side_by_side}
 
 -- ---- a body behind the octet of a preamble
 
 -- after level 0
 abbrev plain : ℕ → ℕ → Row
-plain m b = bigBits 8 m ++ biphase false (slots b)
+plain m b = big_bits 8 m ++ biphase false (slots b)
 
 slots-long : (b : ℕ) → length (biphase false (slots b)) ≡ 56
 slots-long b = rw (slots-bits b, length-biphase false (bits 28 (b / 2 ^ 4)), length-bits 28 (b / 2 ^ 4))
 
 length-plain : (m b : ℕ) → length (plain m b) ≡ 64
-length-plain m b = rw (length-append, length-bigBits 8 m, slots-long b)
+length-plain m b = rw (length-append, length-big_bits 8 m, slots-long b)
 
 opened-0 : (m b : ℕ) → opened m false b ≡ plain m b
 unfolding opened
@@ -47,8 +47,8 @@ opened-0 m b = after-0 (plain m b)
 big-opened : (m b : ℕ) → m < 256 → big (opened m false b) ≡ m * 2 ^ 56 + big (biphase false (slots b))
 big-opened m b h =
     ap big (opened-0 m b)
-    ∙ (rw (slots-long b) at (big-append (bigBits 8 m) (biphase false (slots b))))
-    ∙ ap (λ (o : ℕ). o * 2 ^ 56 + big (biphase false (slots b))) (big-bigBits 8 m ∙ mod-eq_of_lt h)
+    ∙ (rw (slots-long b) at (big-append (big_bits 8 m) (biphase false (slots b))))
+    ∙ ap (λ (o : ℕ). o * 2 ^ 56 + big (biphase false (slots b))) (big-big_bits 8 m ∙ mod-eq_of_lt h)
 
 pub slots-lt : (b : ℕ) → big (biphase false (slots b)) < 2 ^ 56
 slots-lt b = rw (slots-long b) at (big_lt (biphase false (slots b)))
@@ -61,10 +61,10 @@ opened-due i l b = rw (due-row i) (subframe-after i l b)
 -- ---- its 56 symbols by four entries
 
 -- of 28 bits, sixteen symbols three times, and the first eight of the last sixteen
-module _ (y a b c d : ℕ) (hy : y < 2 ^ 28) (ea : a ≡ get_or biphaseTable (y % 256) 0) (eb : b ≡ get_or biphaseTable (y / 256 % 256) 0)
-    (ec : c ≡ get_or biphaseTable (y / 65536 % 256) 0) (ed : d ≡ get_or biphaseTable (y / 16777216) 0) where
+module _ (y a b c d : ℕ) (hy : y < 2 ^ 28) (ea : a ≡ get_or biphase_table (y % 256) 0) (eb : b ≡ get_or biphase_table (y / 256 % 256) 0)
+    (ec : c ≡ get_or biphase_table (y / 65536 % 256) 0) (ed : d ≡ get_or biphase_table (y / 16777216) 0) where
   -- an entry after a level, for eight of them
-  after : (l : Bool) (e x : ℕ) → e ≡ get_or biphaseTable (x % 256) 0 → bit_xor e (inverter 16 l) ≡ big (biphase l (bits 8 x))
+  after : (l : Bool) (e x : ℕ) → e ≡ get_or biphase_table (x % 256) 0 → bit_xor e (inverter 16 l) ≡ big (biphase l (bits 8 x))
   after l e x h =
       ap (λ (n : ℕ). bit_xor n (inverter 16 l)) h ∙ entry-after l (x % 256) (omega arith) ∙ ap (λ (r : Row). big (biphase l r)) (bits-mod 8 x)
 
@@ -75,10 +75,10 @@ module _ (y a b c d : ℕ) (hy : y < 2 ^ 28) (ea : a ≡ get_or biphaseTable (y 
   q = second_of a b
 
   abbrev r : ℕ
-  r = thirdOf a b c
+  r = third_of a b c
 
   abbrev s : ℕ
-  s = fourthOf a b c d
+  s = fourth_of a b c d
 
   q-is : q ≡ big (biphase (odd a) (bits 8 (y / 256)))
   q-is = after (odd a) b (y / 256) eb
@@ -86,13 +86,13 @@ module _ (y a b c d : ℕ) (hy : y < 2 ^ 28) (ea : a ≡ get_or biphaseTable (y 
   r-is : r ≡ big (biphase (odd q) (bits 8 (y / 256 / 256)))
   r-is =
       let z : y / 256 / 256 % 256 ≡ y / 65536 % 256 = omega arith in
-      after (odd q) c (y / 256 / 256) (ec ∙ ap (λ (n : ℕ). get_or biphaseTable n 0) (sym z))
+      after (odd q) c (y / 256 / 256) (ec ∙ ap (λ (n : ℕ). get_or biphase_table n 0) (sym z))
 
   s-is : s / 256 ≡ big (biphase (odd r) (bits 4 (y / 256 / 256 / 256)))
   s-is =
       let x = y / 256 / 256 / 256 in
       let z : x % 256 ≡ y / 16777216 = omega arith in
-      ap (λ (n : ℕ). n / 256) (after (odd r) d x (ed ∙ ap (λ (n : ℕ). get_or biphaseTable n 0) (sym z))) ∙ eight-first (odd r) x
+      ap (λ (n : ℕ). n / 256) (after (odd r) d x (ed ∙ ap (λ (n : ℕ). get_or biphase_table n 0) (sym z))) ∙ eight-first (odd r) x
 
   whole_word : big (biphase false (bits 28 y)) ≡ a * 2 ^ 40 + (q * 2 ^ 24 + (r * 2 ^ 8 + s / 256))
   whole_word =
@@ -102,7 +102,7 @@ module _ (y a b c d : ℕ) (hy : y < 2 ^ 28) (ea : a ≡ get_or biphaseTable (y 
       (big-biphase 7 12 (odd a) (y / 256) ∙ rw (← q-is)
       (ap (λ (n : ℕ). q * 2 ^ 24 + n) (big-biphase 7 4 (odd q) (y / 256 / 256) ∙ rw (← r-is) (ap (λ (n : ℕ). r * 2 ^ 8 + n) (sym s-is))))))
 
-  entry-small : (e x : ℕ) → x < 256 → e ≡ get_or biphaseTable x 0 → e < 2 ^ 16
+  entry-small : (e x : ℕ) → x < 256 → e ≡ get_or biphase_table x 0 → e < 2 ^ 16
   entry-small e x h g = rw g (entry_lt x h)
 
   pub word-by-entries : bit_xor (((a * 65536 + b) * 65536 + c) * 256 + d / 256) (inverters (odd a) (odd b) (odd c)) ≡ big (biphase false (bits 28 y))
@@ -117,7 +117,7 @@ module _ (k f : ℕ) (hk : k < 2 ^ 24) (hf : f < 8) where
   low = k * 16 + f * 2 ^ 28
 
   -- the order of the bits does not change their parity
-  pub same-parity : parityOf (k * 256 + f * 16) ≡ parityOf low
+  pub same-parity : parity_of (k * 256 + f * 16) ≡ parity_of low
   same-parity =
       let x : (k * 256 + f * 16) / 16 ≡ k * 2 ^ 4 + f = omega arith in
       let y : low / 16 ≡ f * 2 ^ 24 + k = omega arith in
@@ -125,21 +125,21 @@ module _ (k f : ℕ) (hk : k < 2 ^ 24) (hf : f < 8) where
       ∙ ap (λ (n : ℕ). n % 2) (ones_cat 4 k f (omega arith) ∙ add_comm (ones k) (ones f))
       ∙ sym (parity-ones low (omega arith) ∙ ap (λ (n : ℕ). ones n % 2) y ∙ ap (λ (n : ℕ). n % 2) (ones_cat 24 f k hk))
 
-  module _ (t : ℕ) (et : t ≡ f + parityOf low * 8) where
+  module _ (t : ℕ) (et : t ≡ f + parity_of low * 8) where
     abbrev y : ℕ
     y = k + t * 2 ^ 24
 
-    body-slots : slots (bodyWith k f) ≡ bits 28 y
+    body-slots : slots (body_with k f) ≡ bits 28 y
     body-slots =
-        let z : (low + parityOf low * 2 ^ 31) / 2 ^ 4 ≡ y = omega arith in
-        slots-bits (bodyWith k f) ∙ ap (λ (n : ℕ). bits 28 (n / 2 ^ 4)) (sym (laid-with k f low hf refl)) ∙ ap (bits 28) z
+        let z : (low + parity_of low * 2 ^ 31) / 2 ^ 4 ≡ y = omega arith in
+        slots-bits (body_with k f) ∙ ap (λ (n : ℕ). bits 28 (n / 2 ^ 4)) (sym (laid-with k f low hf refl)) ∙ ap (bits 28) z
 
-    pub word-of-body : (a b c d : ℕ) → a ≡ get_or biphaseTable (k % 256) 0 → b ≡ get_or biphaseTable (k / 256 % 256) 0 → c ≡ get_or biphaseTable (k / 65536) 0
-        → d ≡ get_or biphaseTable t 0
-        → bit_xor (((a * 65536 + b) * 65536 + c) * 256 + d / 256) (inverters (odd a) (odd b) (odd c)) ≡ big (biphase false (slots (bodyWith k f)))
+    pub word-of-body : (a b c d : ℕ) → a ≡ get_or biphase_table (k % 256) 0 → b ≡ get_or biphase_table (k / 256 % 256) 0 → c ≡ get_or biphase_table (k / 65536) 0
+        → d ≡ get_or biphase_table t 0
+        → bit_xor (((a * 65536 + b) * 65536 + c) * 256 + d / 256) (inverters (odd a) (odd b) (odd c)) ≡ big (biphase false (slots (body_with k f)))
     word-of-body a b c d ea eb ec ed =
         let h : t < 16 = omega (arith, parity-lt low) in
-        let at : (m n : ℕ) → m ≡ n → get_or biphaseTable m 0 ≡ get_or biphaseTable n 0 = λ m n e. ap (λ (i : ℕ). get_or biphaseTable i 0) e in
+        let at : (m n : ℕ) → m ≡ n → get_or biphase_table m 0 ≡ get_or biphase_table n 0 = λ m n e. ap (λ (i : ℕ). get_or biphase_table i 0) e in
         word-by-entries y a b c d (omega arith) (ea ∙ at (k % 256) (y % 256) (omega arith)) (eb ∙ at (k / 256 % 256) (y / 256 % 256) (omega arith))
         (ec ∙ at (k / 65536) (y / 65536 % 256) (omega arith)) (ed ∙ at t (y / 16777216) (omega arith))
         ∙ ap (λ (r : Row). big (biphase false r)) (sym body-slots)
@@ -147,9 +147,9 @@ module _ (k f : ℕ) (hk : k < 2 ^ 24) (hf : f < 8) where
 -- ---- 64 symbols as a number
 
 -- behind the octet of a preamble, after a level
-pub word-opened : (m : ℕ) (l : Bool) (b : ℕ) → m < 256 → bigBits 64 (wordAfter l (m * 2 ^ 56 + big (biphase false (slots b)))) ≡ opened m l b
-unfolding opened wordAfter
-word-opened m l b h = rw (← big-opened m b h) (rw (after-0 (plain m b)) (word_after l (plain m b) (length-plain m b)))
+pub word-opened : (m : ℕ) (l : Bool) (b : ℕ) → m < 256 → big_bits 64 (word_after l (m * 2 ^ 56 + big (biphase false (slots b)))) ≡ opened m l b
+unfolding opened word_after
+word-opened m l b h = rw (← big-opened m b h) (rw (after-0 (plain m b)) (word_after_lem l (plain m b) (length-plain m b)))
 
 -- eight octets laid one after the other
 pub laid : (os : List ℕ) (o0 o1 o2 o3 o4 o5 o6 o7 : ℕ) → length os ≡ 8
@@ -168,11 +168,11 @@ laid (p ∷ q ∷ r ∷ s ∷ t ∷ u ∷ v ∷ []) o0 o1 o2 o3 o4 o5 o6 o7 h = 
 -- the octets of a word
 module _ (w : ℕ) (h : w < 2 ^ 64) where
   abbrev row : Row
-  row = bigBits 64 w
+  row = big_bits 64 w
 
   whole : window row 0 64 ≡ w
   unfolding window
-  whole = ap big (part-all row 64 (length-bigBits 64 w)) ∙ big-bigBits 64 w ∙ mod-eq_of_lt h
+  whole = ap big (part-all row 64 (length-big_bits 64 w)) ∙ big-big_bits 64 w ∙ mod-eq_of_lt h
 
   octet : (a : ℕ) → a + 8 ≤ 64 → w / 2 ^ (64 - (a + 8)) % 2 ^ 8 ≡ window row a 8
   octet a n = ap (λ (x : ℕ). x / 2 ^ (64 - (a + 8)) % 2 ^ 8) (sym whole) ∙ window-inside row 0 64 a 8 n ∙ rw zero-add

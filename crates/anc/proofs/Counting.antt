@@ -10,17 +10,17 @@ use Rattle.bits.proofs.Tests.{order}
 use Rattle.answer.specs.Answer.{Answer.accepted}
 use Rattle.answer.specs.Demand.{◌&◌}
 use Rattle.answer.proofs.Chains.{passing}
-use Rattle.anc.specs.Dbn.{afterDbn, nextDbn, stepped}
+use Rattle.anc.specs.Dbn.{after_dbn, next_dbn, stepped}
 
 -- 1 to 255 by their distance from 1, round and round
 abbrev place : ℕ → ℕ → ℕ
 place n k = (n - 1 + k) % 255 + 1
 
-next-accepted : (n : ℕ) → n ≤ 255 → nextDbn n ≡ accepted (afterDbn n)
-unfolding nextDbn
+next-accepted : (n : ℕ) → n ≤ 255 → next_dbn n ≡ accepted (after_dbn n)
+unfolding next_dbn
 next-accepted n h = passing _ _ (le-leb n 255 h & tt)
 
-next_place : (n k : ℕ) → afterDbn (place n k) ≡ place n (suc k)
+next_place : (n k : ℕ) → after_dbn (place n k) ≡ place n (suc k)
 next_place n k =
     let m = (n - 1 + k) % 255 in
     let some : eqb (m + 1) 0 ≡ false = ne_eqb (m + 1) 0 (λ e. omega arith) in

@@ -15,17 +15,17 @@ use Rattle.answer.specs.Demand.{Demand.asks, AllMet, ◌&◌, Stops}
 use Rattle.answer.specs.Demand.Stops.{fails, later}
 use Rattle.answer.proofs.Chains.{search-cases, not-both, passing, stopped, met, stops, beyond}
 use Rattle.anc.specs.Word.{word_of}
-use Rattle.anc.specs.Head.{didIn, groupIn, headIn, headDemands, headAnswer}
+use Rattle.anc.specs.Head.{did_in, group_in, head_in, head_demands, head_answer}
 use Rattle.anc.proofs.WordLaws.{word-in-full}
 
 -- a word that names a group is the DID of that group, one of those listed
 pub record Named (dids : List ℕ) (w g : ℕ) : Type 0 where
-  pub word : w ≡ didIn dids g
+  pub word : w ≡ did_in dids g
   pub some : 1 ≤ g
   pub few : g ≤ length dids
 
 module _ (dids : List ℕ) (w : ℕ) where
-  pub named : (groupIn dids w ≡ 0 → ⊥) → Named dids w (groupIn dids w)
+  pub named : (group_in dids w ≡ 0 → ⊥) → Named dids w (group_in dids w)
   named =
       search-cases (λ i. eqb w (get_or dids i 0)) suc 0 0 (length dids) (λ g. (g ≡ 0 → ⊥) → Named dids w g)
       (λ i l u t before n.
@@ -38,20 +38,20 @@ module _ (dids : List ℕ) (w : ℕ) where
       (λ none n. absurd (n refl))
 
   -- a group is one of those listed, or 0
-  pub group-most : groupIn dids w ≤ length dids
+  pub group-most : group_in dids w ≤ length dids
   group-most =
       search-cases (λ i. eqb w (get_or dids i 0)) suc 0 0 (length dids) (λ g. g ≤ length dids) (λ i l u t before. omega arith) (λ none. omega arith)
 
   module _ (some : 0 < length dids) where
     -- one that names none is no DID
-    pub unnamed : groupIn dids w ≡ 0 → eqb w (didIn dids (groupIn dids w)) ≡ false
+    pub unnamed : group_in dids w ≡ 0 → eqb w (did_in dids (group_in dids w)) ≡ false
     unnamed =
-        search-cases (λ i. eqb w (get_or dids i 0)) suc 0 0 (length dids) (λ g. g ≡ 0 → eqb w (didIn dids g) ≡ false)
+        search-cases (λ i. eqb w (get_or dids i 0)) suc 0 0 (length dids) (λ g. g ≡ 0 → eqb w (did_in dids g) ≡ false)
         (λ i l u t before e. absurd (omega arith)) (λ none e. none 0 (omega arith) (omega arith))
 
     -- so a word that is the DID of the group that it names, names one
-    pub names : eqb w (didIn dids (groupIn dids w)) ≡ true → Named dids w (groupIn dids w)
-    names t = named (λ e. no-yes (eqb w (didIn dids (groupIn dids w))) (unnamed e) t)
+    pub names : eqb w (did_in dids (group_in dids w)) ≡ true → Named dids w (group_in dids w)
+    names t = named (λ e. no-yes (eqb w (did_in dids (group_in dids w))) (unnamed e) t)
 
 -- ---- laws of each of four DIDs, by one test that antt computes
 
@@ -60,10 +60,10 @@ each-group f g t zero h l = absurd (omega arith)
 each-group f g t (suc k) h l = agree 4 (λ i. f (suc i)) (λ i. g (suc i)) t k (omega arith)
 
 -- a word in full, of its low octet
-abbrev pub inFull : ℕ → ℕ
-inFull w = w % 2 ^ 8 + ones (w % 2 ^ 8) % 2 * 2 ^ 8 + (1 - ones (w % 2 ^ 8) % 2) * 2 ^ 9
+abbrev pub in_full : ℕ → ℕ
+in_full w = w % 2 ^ 8 + ones (w % 2 ^ 8) % 2 * 2 ^ 8 + (1 - ones (w % 2 ^ 8) % 2) * 2 ^ 9
 
-pub full-word : (w : ℕ) → inFull w ≡ w → word_of (w % 2 ^ 8) ≡ w
+pub full-word : (w : ℕ) → in_full w ≡ w → word_of (w % 2 ^ 8) ≡ w
 full-word w e = word-in-full (w % 2 ^ 8) (omega arith) ∙ e
 
 -- ---- a head refuses with 13, at one of its words
@@ -72,7 +72,7 @@ abbrev Within : ℕ → List (ℕ × ℕ) → Type 0
 Within n [] = Unit {0}
 Within n (s ∷ head) = (s.0 < n) × Within n head
 
-listed-stops : (n : ℕ) (head : List (ℕ × ℕ)) (words : List ℕ) {number place : ℕ} → Within n head → Stops (headDemands head words) number place
+listed-stops : (n : ℕ) (head : List (ℕ × ℕ)) (words : List ℕ) {number place : ℕ} → Within n head → Stops (head_demands head words) number place
     → (number ≡ 13) × (place < n)
 listed-stops n [] words h s = not-both {A = ℕ} {v = 0} (sym (stopped (accepted 0) s) ∙ passing (accepted 0) [] tt)
 listed-stops n (s ∷ head) words h (fails f) = (refl, h.0)
@@ -81,21 +81,21 @@ listed-stops n (s ∷ head) words h (later m q) = listed-stops n head words h.1 
 -- ---- what is read of a head
 
 module _ (dids : List ℕ) (dc : ℕ) (words : List ℕ) (six : 6 ≤ length words) where
-  pub head_read : {g : ℕ} → accepted g ≡ headAnswer dids dc words
-      → AllMet (headDemands (headIn dids dc words) words) × (groupIn dids (get_or words 3 0) ≡ g)
-  unfolding headAnswer
+  pub head_read : {g : ℕ} → accepted g ≡ head_answer dids dc words
+      → AllMet (head_demands (head_in dids dc words) words) × (group_in dids (get_or words 3 0) ≡ g)
+  unfolding head_answer
   head_read e =
-      let m = met (groupIn dids (get_or words 3 0)) (asks 1 0 (leb 6 (length words)) ∷ headDemands (headIn dids dc words) words) (sym e) in
+      let m = met (group_in dids (get_or words 3 0)) (asks 1 0 (leb 6 (length words)) ∷ head_demands (head_in dids dc words) words) (sym e) in
       (m.0.1, m.1)
 
   -- a refusal is 13 at the first word that is not as listed
-  pub head-refused : {number place : ℕ} → refused number place ≡ headAnswer dids dc words
-      → Stops (headDemands (headIn dids dc words) words) number place
-  unfolding headAnswer
+  pub head-refused : {number place : ℕ} → refused number place ≡ head_answer dids dc words
+      → Stops (head_demands (head_in dids dc words) words) number place
+  unfolding head_answer
   head-refused {number} {place} e =
       beyond (le-leb 6 (length words) six)
-      (stops (groupIn dids (get_or words 3 0)) (asks 1 0 (leb 6 (length words)) ∷ headDemands (headIn dids dc words) words) number place (sym e))
+      (stops (group_in dids (get_or words 3 0)) (asks 1 0 (leb 6 (length words)) ∷ head_demands (head_in dids dc words) words) number place (sym e))
 
-  pub head-places : {number place : ℕ} → refused number place ≡ headAnswer dids dc words → (number ≡ 13) × (place < 6)
+  pub head-places : {number place : ℕ} → refused number place ≡ head_answer dids dc words → (number ≡ 13) × (place < 6)
   head-places e =
-      listed-stops 6 (headIn dids dc words) words (omega arith & omega arith & omega arith & omega arith & omega arith & tt) (head-refused e)
+      listed-stops 6 (head_in dids dc words) words (omega arith & omega arith & omega arith & omega arith & omega arith & tt) (head-refused e)

@@ -5,17 +5,17 @@ use Rattle.bits.specs.Pick.{pick}
 use Rattle.answer.specs.Answer.{Answer, Answer.accepted, Answer.refused}
 use Rattle.answer.specs.Demand.{Demand.asks, provided}
 
-abbrev pub afterDbn : ℕ → ℕ
-afterDbn n = pick (eqb n 0) 0 (pick (eqb n 255) 1 (n + 1))
+abbrev pub after_dbn : ℕ → ℕ
+after_dbn n = pick (eqb n 0) 0 (pick (eqb n 255) 1 (n + 1))
 
-unfoldable pub nextDbn : ℕ → Answer ℕ
-nextDbn n = provided (asks 2 0 (leb n 255) ∷ []) (accepted (afterDbn n))
+unfoldable pub next_dbn : ℕ → Answer ℕ
+next_dbn n = provided (asks 2 0 (leb n 255) ∷ []) (accepted (after_dbn n))
 
 -- what a sender that starts at n comes to in so many steps
-abbrev pub countedOn : Answer ℕ → Answer ℕ
-countedOn (Answer.accepted n) = nextDbn n
-countedOn (Answer.refused number place) = refused number place
+abbrev pub counted_on : Answer ℕ → Answer ℕ
+counted_on (Answer.accepted n) = next_dbn n
+counted_on (Answer.refused number place) = refused number place
 
 unfoldable pub stepped : ℕ → ℕ → Answer ℕ
 stepped zero n = accepted n
-stepped (suc k) n = countedOn (stepped k n)
+stepped (suc k) n = counted_on (stepped k n)

@@ -2,23 +2,23 @@
 use Rattle.std.specs.Prelude.{ℕ, ◌+◌, ◌%◌, ◌^◌, ◌≤◌, ◌<◌, Bool, true, ◌&&◌, List, [], ◌∷◌, eqb, length}
 use Rattle.bits.specs.Pick.{pick, first}
 use Rattle.answer.specs.Demand.{Demand, AllMet, Stops}
-use Rattle.anc.specs.Word.{word_of, parities, wideAt, wrongAt}
+use Rattle.anc.specs.Word.{word_of, parities, wide_at, wrong_at}
 use Rattle.anc.specs.Enclosed.{enclosed}
 
 -- the word of its own b0 to b7, and each of some words
 unfoldable pub coded : ℕ → Bool
 coded w = eqb w (word_of (w % 2 ^ 8))
 
-unfoldable pub allCoded : List ℕ → Bool
-allCoded [] = true
-allCoded (w ∷ ws) = coded w && allCoded ws
+unfoldable pub all_coded : List ℕ → Bool
+all_coded [] = true
+all_coded (w ∷ ws) = coded w && all_coded ws
 
 -- the first word of more than ten bits, and the first whose b8 or b9 is wrong by the parity; or how many words there are
-unfoldable pub firstWide : List ℕ → ℕ
-firstWide ws = first (wideAt ws) 0 (length ws) (λ i. i) (length ws)
+unfoldable pub first_wide : List ℕ → ℕ
+first_wide ws = first (wide_at ws) 0 (length ws) (λ i. i) (length ws)
 
-unfoldable pub firstWrong : List ℕ → ℕ
-firstWrong ws = first (wrongAt parities ws) 0 (length ws) (λ i. i) (length ws)
+unfoldable pub first_wrong : List ℕ → ℕ
+first_wrong ws = first (wrong_at parities ws) 0 (length ws) (λ i. i) (length ws)
 
 -- of demands that each refuse with this number: r is the place of the first that is not met, or at least `none` where all are
 pub record FirstUnmet (ds : List Demand) (number none r : ℕ) : Type 0 where
@@ -26,5 +26,5 @@ pub record FirstUnmet (ds : List Demand) (number none r : ℕ) : Type 0 where
   pub all-met : none ≤ r → AllMet ds
 
 -- what laying out a packet of these words leaves: the packet, if there is just the room for it
-unfoldable pub laidOut : List ℕ → List ℕ → List ℕ
-laidOut ws old = pick (eqb (length old) (4 + length ws)) (enclosed ws) old
+unfoldable pub laid_out : List ℕ → List ℕ → List ℕ
+laid_out ws old = pick (eqb (length old) (4 + length ws)) (enclosed ws) old

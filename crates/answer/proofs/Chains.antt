@@ -10,7 +10,7 @@ use Rattle.bits.specs.Pick.{pick, first}
 use Rattle.bits.proofs.Tests.{pick-cases, no-yes, order}
 use Rattle.bits.proofs.Firsts.{first-cases}
 use Rattle.answer.specs.Answer.{Answer, Answer.accepted, Answer.refused, mapped}
-use Rattle.answer.specs.Demand.{Demand, Demand.asks, Demand.findsNone, provided, Met, AllMet, Stops}
+use Rattle.answer.specs.Demand.{Demand, Demand.asks, Demand.finds_none, provided, Met, AllMet, Stops}
 use Rattle.answer.specs.Demand.Stops.{fails, found, later}
 
 -- the first place with a property is one place
@@ -61,7 +61,7 @@ module _ {A : Type 0} (a : Answer A) where
   passed (asks number place t ∷ ds) v e =
       pick-cases (λ x. x ≡ accepted v → ((t ≡ true) × AllMet ds) × (a ≡ accepted v)) t (provided ds a) (refused number place)
       (λ h q. let r = passed ds v q in ((h, r.0), r.1)) (λ h q. not-both q) e
-  passed (findsNone number p k n ∷ ds) v e =
+  passed (finds_none number p k n ∷ ds) v e =
       search-cases p (λ i. refused number i) (provided ds a) k n
       (λ x. x ≡ accepted v → (((i : ℕ) → k ≤ i → i < k + n → p i ≡ false) × AllMet ds) × (a ≡ accepted v))
       (λ i l m t before q. not-both q) (λ none q. let r = passed ds v q in ((none, r.0), r.1)) e
@@ -70,7 +70,7 @@ module _ {A : Type 0} (a : Answer A) where
   unfolding provided
   passing [] h = refl
   passing (asks number place t ∷ ds) h = rw h.0 (passing ds h.1)
-  passing (findsNone number p k n ∷ ds) h =
+  passing (finds_none number p k n ∷ ds) h =
       search-cases p (λ i. refused number i) (provided ds a) k n (λ x. x ≡ a) (λ i l m t before. no-yes (p i) (h.0 i l m) t)
       (λ none. passing ds h.1)
 
@@ -83,7 +83,7 @@ module _ {A : Type 0} (a : Answer A) where
       search-cases p (λ j. refused number j) (provided ds a) k n (λ x. x ≡ refused number i)
       (λ j l' m' t' before'. ap (refused number) (one-first p k j i l' l t' t before' before)) (λ none. no-yes (p i) (none i l m) t)
   stopped (later {d = asks n q t} m s) = rw m (stopped s)
-  stopped (later {d = findsNone n p k c} {ds} {number} {place} m s) =
+  stopped (later {d = finds_none n p k c} {ds} {number} {place} m s) =
       search-cases p (λ i. refused n i) (provided ds a) k c (λ x. x ≡ refused number place) (λ i l u t before. no-yes (p i) (m i l u) t)
       (λ none. stopped s)
 
@@ -101,9 +101,9 @@ module _ {A : Type 0} (v : A) where
   stops (asks n q t ∷ ds) number place e =
       pick-cases (λ x. x ≡ refused number place → Stops (asks n q t ∷ ds) number place) t (provided ds (accepted v)) (refused n q)
       (λ h r. later h (stops ds number place r)) (λ h r. same-refusal r (fails h)) e
-  stops (findsNone n p k c ∷ ds) number place e =
+  stops (finds_none n p k c ∷ ds) number place e =
       search-cases p (λ i. refused n i) (provided ds (accepted v)) k c
-      (λ x. x ≡ refused number place → Stops (findsNone n p k c ∷ ds) number place)
+      (λ x. x ≡ refused number place → Stops (finds_none n p k c ∷ ds) number place)
       (λ i l m t before r. same-refusal r (found l m t before)) (λ none r. later none (stops ds number place r)) e
 
 -- ---- where code looked for the first place first, by a test of its own and counted from 0: r is that place, or how many there are
@@ -115,9 +115,9 @@ module _ (p q : ℕ → Bool) (m n many r : ℕ) (same : (i : ℕ) → i < n →
       let i : m + (j - m) ≡ j = omega arith in
       rw i at (same (j - m) (omega arith) ∙ f)
 
-  pub found_from : {number : ℕ} {ds : List Demand} → r < n → Stops (findsNone number p m n ∷ ds) number (m + r)
+  pub found_from : {number : ℕ} {ds : List Demand} → r < n → Stops (finds_none number p m n ∷ ds) number (m + r)
   found_from {number} {ds} h =
-      search-cases q (λ i. i) many 0 many (λ x. r ≡ x → Stops (findsNone number p m n ∷ ds) number (m + r))
+      search-cases q (λ i. i) many 0 many (λ x. r ≡ x → Stops (finds_none number p m n ∷ ds) number (m + r))
       (λ i l u t before x. rw x (found {k = m} {n = n} {i = m + i} {p = p} (omega arith) (omega arith) (same i (omega arith) ∙ t)
       (λ j below above. back j below (omega arith) (before (j - m) (omega arith) (omega arith)))))
       (λ none x. absurd (omega arith)) e
@@ -130,9 +130,9 @@ module _ (p q : ℕ → Bool) (m n many r : ℕ) (same : (i : ℕ) → i < n →
 
 -- the places themselves
 module _ (p q : ℕ → Bool) (n many r : ℕ) (same : (i : ℕ) → p i ≡ q i) (long : many ≡ n) (e : r ≡ first q 0 many (λ i. i) many) where
-  pub found_here : {number : ℕ} {ds : List Demand} → r < n → Stops (findsNone number p 0 n ∷ ds) number r
+  pub found_here : {number : ℕ} {ds : List Demand} → r < n → Stops (finds_none number p 0 n ∷ ds) number r
   found_here {number} {ds} h =
-      subst (Stops (findsNone number p 0 n ∷ ds) number) (zero-add r)
+      subst (Stops (finds_none number p 0 n ∷ ds) number) (zero-add r)
       (found_from p q 0 n many r (λ i l. ap p (zero-add i) ∙ same i) long e h)
 
   pub none_here : n ≤ r → (i : ℕ) → 0 ≤ i → i < 0 + n → p i ≡ false
@@ -140,7 +140,7 @@ module _ (p q : ℕ → Bool) (n many r : ℕ) (same : (i : ℕ) → p i ≡ q i
 
 -- and the test itself
 module _ (p : ℕ → Bool) (n r : ℕ) (e : r ≡ first p 0 n (λ i. i) n) where
-  pub place_found : {number : ℕ} {ds : List Demand} → r < n → Stops (findsNone number p 0 n ∷ ds) number r
+  pub place_found : {number : ℕ} {ds : List Demand} → r < n → Stops (finds_none number p 0 n ∷ ds) number r
   place_found h = found_here p p n n r (λ i. refl) refl e h
 
   pub none_found : n ≤ r → (i : ℕ) → 0 ≤ i → i < 0 + n → p i ≡ false
@@ -153,7 +153,7 @@ module _ {A : Type 0} (a : Answer A) where
   unfolding provided
   followed [] es = refl
   followed (asks number place t ∷ ds) es = ap (λ x. pick t x (refused number place)) (followed ds es)
-  followed (findsNone number p k n ∷ ds) es = ap (λ x. first p k n (λ i. refused number i) x) (followed ds es)
+  followed (finds_none number p k n ∷ ds) es = ap (λ x. first p k n (λ i. refused number i) x) (followed ds es)
 
 -- demands that are met leave the answer to those after them
 pub passes_on : {A : Type 0} (a : Answer A) (ds es : List Demand) → AllMet ds → provided (ds ++ es) a ≡ provided es a

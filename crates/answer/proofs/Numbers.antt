@@ -7,27 +7,27 @@ use borrow.Author.Tests.{ltb-true}
 use lib.Dec.{ltb}
 use Rattle.bits.proofs.Tests.{both_true}
 use Rattle.answer.specs.Answer.{Answer.accepted, Answer.refused}
-use Rattle.answer.specs.Demand.{Demand, Demand.asks, Demand.findsNone, provided, Stops}
+use Rattle.answer.specs.Demand.{Demand, Demand.asks, Demand.finds_none, provided, Stops}
 use Rattle.answer.specs.Demand.Stops.{fails, found, later}
 use Rattle.answer.proofs.Chains.{stops}
 
 abbrev pub number_of : Demand → ℕ
 number_of (Demand.asks number place t) = number
-number_of (Demand.findsNone number p k n) = number
+number_of (Demand.finds_none number p k n) = number
 
 -- each is below a bound
-abbrev pub numbersBelow : ℕ → List Demand → Bool
-numbersBelow bound [] = true
-numbersBelow bound (d ∷ ds) = ltb (number_of d) bound && numbersBelow bound ds
+abbrev pub numbers_below : ℕ → List Demand → Bool
+numbers_below bound [] = true
+numbers_below bound (d ∷ ds) = ltb (number_of d) bound && numbers_below bound ds
 
-stops-below : (bound : ℕ) {ds : List Demand} {number place : ℕ} → Stops ds number place → numbersBelow bound ds ≡ true → number < bound
+stops-below : (bound : ℕ) {ds : List Demand} {number place : ℕ} → Stops ds number place → numbers_below bound ds ≡ true → number < bound
 stops-below bound (fails {number} {place} {t} {ds} f) b =
-    ltb-true number bound (both_true (ltb number bound) (numbersBelow bound ds) b).0
+    ltb-true number bound (both_true (ltb number bound) (numbers_below bound ds) b).0
 stops-below bound (found {number} {k} {n} {i} {p} {ds} l m t before) b =
-    ltb-true number bound (both_true (ltb number bound) (numbersBelow bound ds) b).0
-stops-below bound (later {d} {ds} m s) b = stops-below bound s (both_true (ltb (number_of d) bound) (numbersBelow bound ds) b).1
+    ltb-true number bound (both_true (ltb number bound) (numbers_below bound ds) b).0
+stops-below bound (later {d} {ds} m s) b = stops-below bound s (both_true (ltb (number_of d) bound) (numbers_below bound ds) b).1
 
 -- so is the number of a refusal
 pub refused-below : {A : Type 0} (v : A) (ds : List Demand) (bound : ℕ) {number place : ℕ} → provided ds (accepted v) ≡ refused number place
-    → numbersBelow bound ds ≡ true → number < bound
+    → numbers_below bound ds ≡ true → number < bound
 refused-below v ds bound {number} {place} e b = stops-below bound (stops v ds number place e) b

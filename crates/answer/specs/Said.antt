@@ -8,10 +8,10 @@ use Rattle.answer.specs.declared.NumberAnswer.{NumberAnswer}
 use Rattle.answer.specs.declared.NumberAnswer.TheVariants.{Number}
 use Rattle.answer.specs.declared.NumberAnswer.TheVariants.{Refused as NoNumber}
 
-abbrev pub verdictSaid : Verdict → Answer (Unit {0})
-verdictSaid Accepted = accepted tt
-verdictSaid (NotAccepted n p) = refused n p
+abbrev pub verdict_said : Verdict → Answer (Unit {0})
+verdict_said Accepted = accepted tt
+verdict_said (NotAccepted n p) = refused n p
 
-abbrev pub numberSaid : NumberAnswer → Answer ℕ
-numberSaid (Number n) = accepted n
-numberSaid (NoNumber n p) = refused n p
+abbrev pub number_said : NumberAnswer → Answer ℕ
+number_said (Number n) = accepted n
+number_said (NoNumber n p) = refused n p

@@ -18,17 +18,17 @@ use Rattle.bits.specs.Listed.{listed}
 use Rattle.bits.proofs.Tests.{pick-cases, no-yes, order}
 use Rattle.bits.proofs.Digits.{digit-cases}
 use Rattle.answer.specs.Answer.{Answer.accepted, Answer.refused}
-use Rattle.answer.specs.Demand.{Demand, Demand.findsNone, Met, AllMet, Stops, ◌&◌}
+use Rattle.answer.specs.Demand.{Demand, Demand.finds_none, Met, AllMet, Stops, ◌&◌}
 use Rattle.answer.specs.Demand.Stops.{found}
 use Rattle.answer.proofs.Chains.{met, passing, stops, beyond}
-use Rattle.codes.specs.Crcc.{crccRight}
+use Rattle.codes.specs.Crcc.{crcc_right}
 use Rattle.subframe.specs.Signed.{in_range}
 use Rattle.subframe.proofs.BodyTrips.{sample_in}
-use Rattle.block.specs.Side.{status, fault, columns, columnLength, sideLength}
-use Rattle.block.specs.Block.{sideAt, samplesOf, side_of}
-use Rattle.block.specs.Check.{statusOf, statusRight, Faultless, faulty, outside, consumer, wrong, unmarked, overlong, statusDemands, blockDemands, checkDemands, statusChecked, checked}
-use Rattle.block.proofs.SideLaws.{getD-columnIn}
-use Rattle.block.proofs.BlockLaws.{InRange, length-samples, getD-samples, length-side, side-digit}
+use Rattle.block.specs.Side.{status, fault, columns, column_length, side_length}
+use Rattle.block.specs.Block.{side_at, samples_of, side_of}
+use Rattle.block.specs.Check.{status_of, status_right, Faultless, faulty, outside, consumer, wrong, unmarked, overlong, status_demands, block_demands, check_demands, status_checked, checked}
+use Rattle.block.proofs.SideLaws.{get_or-column_in}
+use Rattle.block.proofs.BlockLaws.{InRange, length-samples, get_or-samples, length-side, side-digit}
 
 -- ---- for those who do not open these tests
 
@@ -37,10 +37,10 @@ unfolding outside
 outside-range s i = refl
 
 -- an octet of a channel's status, by its place in the table
-pub status-octet : (t : List ℕ) (channel j : ℕ) → j < columnLength
-    → get_or (statusOf channel t) j 0 ≡ get_or t (columnLength * (columns * channel + status) + j) 0
-unfolding statusOf
-status-octet t channel j h = getD-columnIn t (columns * channel + status) j h
+pub status-octet : (t : List ℕ) (channel j : ℕ) → j < column_length
+    → get_or (status_of channel t) j 0 ≡ get_or t (column_length * (columns * channel + status) + j) 0
+unfolding status_of
+status-octet t channel j h = get_or-column_in t (columns * channel + status) j h
 
 -- ---- counting, which comes before a search
 
@@ -64,10 +64,10 @@ count_none p hit miss k (suc n) e =
 -- ---- one kind of refusal for both channels
 
 module _ (p : ℕ → Bool) where
-  pub at-A : {number : ℕ} {ds : List Demand} → p 0 ≡ true → Stops (findsNone number p 0 2 ∷ ds) number 0
+  pub at-A : {number : ℕ} {ds : List Demand} → p 0 ≡ true → Stops (finds_none number p 0 2 ∷ ds) number 0
   at-A a = found {k = 0} {n = 2} {i = 0} (omega arith) (omega arith) a (λ j l m. absurd (omega arith))
 
-  pub at-B : {number : ℕ} {ds : List Demand} → p 0 ≡ false → p 1 ≡ true → Stops (findsNone number p 0 2 ∷ ds) number 1
+  pub at-B : {number : ℕ} {ds : List Demand} → p 0 ≡ false → p 1 ≡ true → Stops (finds_none number p 0 2 ∷ ds) number 1
   at-B a b = found {k = 0} {n = 2} {i = 1} {p = p} (omega arith) (omega arith) b (λ j l m. let e : j ≡ 0 = omega arith in rw e a)
 
   pub neither : p 0 ≡ false → p 1 ≡ false → (i : ℕ) → 0 ≤ i → i < 0 + 2 → p i ≡ false
@@ -79,11 +79,11 @@ module _ (p : ℕ → Bool) where
 
 pub record Passes (s : List ℤ) (t : List ℕ) : Type 0 where
   pub samples : length s ≡ 384
-  pub side : length t ≡ sideLength
+  pub side : length t ≡ side_length
   pub faultless : Faultless t
   pub ranges : InRange s
   pub professional : (channel : ℕ) → channel < 2 → consumer t channel ≡ false
-  pub right : (channel : ℕ) → channel < 2 → crccRight (statusOf channel t) ≡ true
+  pub right : (channel : ℕ) → channel < 2 → crcc_right (status_of channel t) ≡ true
   pub marked : (channel : ℕ) → channel < 2 → unmarked t channel ≡ false
   pub within : (i : ℕ) → i < 384 → overlong s t i ≡ false
 
@@ -97,7 +97,7 @@ in-range s n all i =
 none-faulty : (t : List ℕ) → ((j : ℕ) → 0 ≤ j → j < 0 + 384 → faulty t j ≡ false) → Faultless t
 unfolding faulty
 none-faulty t all i h =
-    digit-cases (λ (d : ℕ). eqb d 1 ≡ false → d ≡ 0) (λ e. refl) (λ e. no-yes (eqb 1 1) e refl) (sideAt t fault i) (side-digit t fault i)
+    digit-cases (λ (d : ℕ). eqb d 1 ≡ false → d ≡ 0) (λ e. refl) (λ e. no-yes (eqb 1 1) e refl) (side_at t fault i) (side-digit t fault i)
     (all i (omega arith) (omega arith))
 
 faultless-none : (t : List ℕ) → Faultless t → (j : ℕ) → 0 ≤ j → j < 0 + 384 → faulty t j ≡ false
@@ -105,57 +105,57 @@ unfolding faulty
 faultless-none t none j l h = rw (none j (omega arith))
 
 -- lengths and demands that are met
-pub met-passes : (s : List ℤ) (t : List ℕ) → AllMet (checkDemands s t) → Passes s t
+pub met-passes : (s : List ℤ) (t : List ℕ) → AllMet (check_demands s t) → Passes s t
 unfolding wrong
 met-passes s t m =
     let n = eqb-true (length s) 384 m.0 in
     record {
       samples = n;
-      side = eqb-true (length t) sideLength m.1.0;
+      side = eqb-true (length t) side_length m.1.0;
       faultless = none-faulty t m.1.1.0;
       ranges = in-range s n m.1.1.1.0;
       professional = λ ch h. m.1.1.1.1.0 ch (omega arith) (omega arith);
-      right = λ ch h. not-false (crccRight (statusOf ch t)) (m.1.1.1.1.1.0 ch (omega arith) (omega arith));
+      right = λ ch h. not-false (crcc_right (status_of ch t)) (m.1.1.1.1.1.0 ch (omega arith) (omega arith));
       marked = λ ch h. m.1.1.1.1.1.1.0 ch (omega arith) (omega arith);
       within = λ i h. m.1.1.1.1.1.1.1.0 i (omega arith) (omega arith);
     }
 
 module _ (s : List ℤ) (t : List ℕ) where
-  pub sound-met : checked s t ≡ accepted tt → AllMet (checkDemands s t)
+  pub sound-met : checked s t ≡ accepted tt → AllMet (check_demands s t)
   unfolding checked
-  sound-met e = (met tt (checkDemands s t) e).0
+  sound-met e = (met tt (check_demands s t) e).0
 
   pub sound-passes : checked s t ≡ accepted tt → Passes s t
   sound-passes e = met-passes s t (sound-met e)
 
   -- a refusal of samples and side table of the right lengths is one of what comes after the lengths
-  pub unsound-stops : {number place : ℕ} → length s ≡ 384 → length t ≡ sideLength → checked s t ≡ refused number place
-      → Stops (blockDemands s t) number place
+  pub unsound-stops : {number place : ℕ} → length s ≡ 384 → length t ≡ side_length → checked s t ≡ refused number place
+      → Stops (block_demands s t) number place
   unfolding checked
   unsound-stops {number} {place} n m e =
-      beyond (eq-eqb (length t) sideLength m) (beyond (eq-eqb (length s) 384 n) (stops tt (checkDemands s t) number place e))
+      beyond (eq-eqb (length t) side_length m) (beyond (eq-eqb (length s) 384 n) (stops tt (check_demands s t) number place e))
 
 -- both CRCCs of a block that passes are right
-pub right-back : (s : List ℤ) (t : List ℕ) → Passes s t → (channel : ℕ) → channel < 2 → statusRight t channel ≡ true
-unfolding statusRight
-right-back s t p channel h = rw (eq-eqb (length t) sideLength p.side, lt-ltb channel 2 h, p.right channel h)
+pub right-back : (s : List ℤ) (t : List ℕ) → Passes s t → (channel : ℕ) → channel < 2 → status_right t channel ≡ true
+unfolding status_right
+right-back s t p channel h = rw (eq-eqb (length t) side_length p.side, lt-ltb channel 2 h, p.right channel h)
 
 -- ---- a block that was read meets all demands where E is empty, its status does, and its samples keep to the declared
 -- lengths
 
-pub status-met : (t : List ℕ) → statusChecked t ≡ accepted tt → AllMet (statusDemands t)
-unfolding statusChecked
-status-met t e = (met tt (statusDemands t) e).0
+pub status-met : (t : List ℕ) → status_checked t ≡ accepted tt → AllMet (status_demands t)
+unfolding status_checked
+status-met t e = (met tt (status_demands t) e).0
 
-pub read-met : (b : List ℕ) → Faultless (side_of b) → statusChecked (side_of b) ≡ accepted tt
-    → ((i : ℕ) → i < 384 → overlong (samplesOf b) (side_of b) i ≡ false) → AllMet (checkDemands (samplesOf b) (side_of b))
+pub read-met : (b : List ℕ) → Faultless (side_of b) → status_checked (side_of b) ≡ accepted tt
+    → ((i : ℕ) → i < 384 → overlong (samples_of b) (side_of b) i ≡ false) → AllMet (check_demands (samples_of b) (side_of b))
 unfolding outside
 read-met b none e within =
     let m = status-met (side_of b) e in
-    eq-eqb (length (samplesOf b)) 384 (length-samples b)
-    & eq-eqb (length (side_of b)) sideLength (length-side b)
+    eq-eqb (length (samples_of b)) 384 (length-samples b)
+    & eq-eqb (length (side_of b)) side_length (length-side b)
     & faultless-none (side_of b) none
-    & (λ j l h. ap (λ (z : ℤ). not (in_range 24 z)) (getD-samples b j (omega arith)) ∙ ap not (sample_in (get_or b j 0)))
+    & (λ j l h. ap (λ (z : ℤ). not (in_range 24 z)) (get_or-samples b j (omega arith)) ∙ ap not (sample_in (get_or b j 0)))
     & m.0
     & m.1.0
     & m.1.1.0

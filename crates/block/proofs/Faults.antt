@@ -14,30 +14,30 @@ use Rattle.bits.specs.Listed.{listed}
 use Rattle.bits.proofs.Digits.{digit-cases}
 use Rattle.bits.proofs.Places.{first-none}
 use Rattle.answer.proofs.Chains.{none_found}
-use Rattle.block.specs.Side.{fault, columns, columnLength}
+use Rattle.block.specs.Side.{fault, columns, column_length}
 use Rattle.block.specs.Check.{faulty}
-use Rattle.block.specs.Inner.{faultsOf, someFault}
+use Rattle.block.specs.Inner.{faults_of, some_fault}
 use Rattle.block.proofs.BlockLaws.{side-octet}
 use Rattle.block.proofs.CheckLaws.{count_none}
 
 -- E of a subframe, by its octet
 pub by-octet : (t : List ℕ) (i : ℕ) → i < 384
-    → eqb (bit (i / 2 % 8) (get_or t (columnLength * (columns * (i % 2) + fault) + i / 16) 0)) 1 ≡ faulty t i
+    → eqb (bit (i / 2 % 8) (get_or t (column_length * (columns * (i % 2) + fault) + i / 16) 0)) 1 ≡ faulty t i
 unfolding faulty
 by-octet t i h = rw (side-octet t fault i (omega arith) h)
 
 -- none is set of those whose octets are 0
-clear : (t : List ℕ) (i : ℕ) → i < 384 → faultsOf t 0 (i / 16) + faultsOf t 1 (i / 16) ≡ 0 → faulty t i ≡ false
-unfolding faulty faultsOf
+clear : (t : List ℕ) (i : ℕ) → i < 384 → faults_of t 0 (i / 16) + faults_of t 1 (i / 16) ≡ 0 → faulty t i ≡ false
+unfolding faulty faults_of
 clear t i h z =
-    let o : get_or t (columnLength * (columns * (i % 2) + fault) + i / 16) 0 ≡ 0 =
-    digit-cases (λ (c : ℕ). faultsOf t c (i / 16) ≡ 0) (omega arith) (omega arith) (i % 2) (omega arith) in
+    let o : get_or t (column_length * (columns * (i % 2) + fault) + i / 16) 0 ≡ 0 =
+    digit-cases (λ (c : ℕ). faults_of t c (i / 16) ≡ 0) (omega arith) (omega arith) (i % 2) (omega arith) in
     rw (side-octet t fault i (omega arith) h, o, zero-div)
 
 -- where no sixteen has an E that is set, none is found
-pub none-set : (t : List ℕ) → count (listed 0 24 (someFault t)) ≡ 0 → first (faulty t) 0 384 (λ i. i) 384 ≡ 384
-unfolding someFault
+pub none-set : (t : List ℕ) → count (listed 0 24 (some_fault t)) ≡ 0 → first (faulty t) 0 384 (λ i. i) 384 ≡ 384
+unfolding some_fault
 none-set t z =
-    let none = none_found (someFault t) 24 24 (sym (count_none (someFault t) (λ i. i) 24 0 24 z)) (omega arith) in
+    let none = none_found (some_fault t) 24 24 (sym (count_none (some_fault t) (λ i. i) 24 0 24 z)) (omega arith) in
     first-none (faulty t) (λ i. i) 384 0 384
-    (λ i h. clear t i (omega arith) (eqb-true _ 0 (not-false (eqb (faultsOf t 0 (i / 16) + faultsOf t 1 (i / 16)) 0) (none (i / 16) (omega arith) (omega arith)))))
+    (λ i h. clear t i (omega arith) (eqb-true _ 0 (not-false (eqb (faults_of t 0 (i / 16) + faults_of t 1 (i / 16)) 0) (none (i / 16) (omega arith) (omega arith)))))

@@ -16,15 +16,15 @@ use Rattle.bits.specs.Window.{part}
 use Rattle.bits.specs.Listed.{listed}
 use Rattle.bits.proofs.Tests.{pick-cases}
 use Rattle.bits.proofs.Digits.{digit-odd}
-use Rattle.bits.proofs.Lists.{length-listed, getD-listed}
+use Rattle.bits.proofs.Lists.{length-listed, get_or-listed}
 use Rattle.bits.proofs.Rows.{little-lt}
 use Rattle.bits.proofs.Windows.{length_part}
-use Rattle.subframe.specs.Body.{parityOf}
+use Rattle.subframe.specs.Body.{parity_of}
 use Rattle.subframe.proofs.BodyLaws.{parity-lt}
-use Rattle.block.specs.Side.{columnBits}
-use Rattle.block.specs.Block.{rowFrom}
-use Rattle.block.specs.Inner.{digitsOf, apartTable, gathered}
-use Rattle.block.proofs.BlockLaws.{getD-channel-row}
+use Rattle.block.specs.Side.{column_bits}
+use Rattle.block.specs.Block.{row_from}
+use Rattle.block.specs.Inner.{digits_of, apart_table, gathered}
+use Rattle.block.proofs.BlockLaws.{get_or-channel-row}
 
 -- ---- the table
 
@@ -35,15 +35,15 @@ entries =
     16777217 ∷ 16777217 ∷ 16777473 ∷ 16777473 ∷ 16842753 ∷ 16842753 ∷ 16843009 ∷ 16843009 ∷
     16777217 ∷ 16777217 ∷ 16777473 ∷ 16777473 ∷ 16842753 ∷ 16842753 ∷ 16843009 ∷ 16843009 ∷ []
 
-pub entries-right : entries ≡ apartTable
-unfolding entries apartTable listed
+pub entries-right : entries ≡ apart_table
+unfolding entries apart_table listed
 entries-right = refl
 
 abbrev rule : ℕ → ℕ
 rule x = pick (eqb (x / 16) 0) (bit 0 x) 1 + bit 1 x * 256 + bit 2 x * 256 ^ 2 + x / 16 * 256 ^ 3
 
-pub length-apart : length apartTable ≡ 32
-unfolding apartTable
+pub length-apart : length apart_table ≡ 32
+unfolding apart_table
 length-apart = length-listed 0 32 rule
 
 weighed : (v u c e : ℕ) → v < 2 → u < 2 → c < 2 → e < 2
@@ -63,8 +63,8 @@ third : (d p : ℕ) → (d + p * 16) / 4 % 2 ≡ d / 4 % 2
 third d p = omega arith
 
 -- the columns hold of a body its slots 28 to 30 and whether it is odd
-by-rule : (b p : ℕ) → b < 2 ^ 32 → p < 2 → parityOf b ≡ p → rule (b / 2 ^ 28 + p * 16) ≡ digitsOf columnBits b
-unfolding digitsOf
+by-rule : (b p : ℕ) → b < 2 ^ 32 → p < 2 → parity_of b ≡ p → rule (b / 2 ^ 28 + p * 16) ≡ digits_of column_bits b
+unfolding digits_of
 by-rule b p h hp e =
     let x = b / 2 ^ 28 + p * 16 in
     let q : x / 16 ≡ p = omega arith in
@@ -75,17 +75,17 @@ by-rule b p h hp e =
     (weighed (pick (eqb p 0) (bit 28 b) 1) (bit 29 b) (bit 30 b) p
     (pick-cases (λ n. n < 2) (eqb p 0) (bit 28 b) 1 (λ t. omega arith) (λ t. omega arith)) (omega arith) (omega arith) hp)
 
-pub entry : (table : List ℕ) (b p : ℕ) → table ≡ apartTable → b < 2 ^ 32 → p ≡ parityOf b
-    → get_or table (b / 2 ^ 28 + p * 16) 0 ≡ digitsOf columnBits b
-unfolding apartTable
+pub entry : (table : List ℕ) (b p : ℕ) → table ≡ apart_table → b < 2 ^ 32 → p ≡ parity_of b
+    → get_or table (b / 2 ^ 28 + p * 16) 0 ≡ digits_of column_bits b
+unfolding apart_table
 entry table b p e h q =
     let l : p < 2 = rw q (parity-lt b) in
     ap (λ (t : List ℕ). get_or t (b / 2 ^ 28 + p * 16) 0) e
-    ∙ getD-listed 32 rule (b / 2 ^ 28 + p * 16) 0 (omega arith)
+    ∙ get_or-listed 32 rule (b / 2 ^ 28 + p * 16) 0 (omega arith)
     ∙ by-rule b p h l (sym q)
 
-pub digits_lt : (gs : List (ℕ → ℕ)) (b : ℕ) → digitsOf gs b < 256 ^ length gs
-unfolding digitsOf
+pub digits_lt : (gs : List (ℕ → ℕ)) (b : ℕ) → digits_of gs b < 256 ^ length gs
+unfolding digits_of
 digits_lt [] b = omega arith
 digits_lt (g ∷ gs) b = rw pow-suc (omega (arith, digits_lt gs b))
 
@@ -93,30 +93,30 @@ digits_lt (g ∷ gs) b = rw pow-suc (omega (arith, digits_lt gs b))
 
 -- of one column the last m of eight frames from frame f on; one frame more
 row_more : (g : ℕ → ℕ) (bodies : List ℕ) (channel f m : ℕ) → f + 8 ≤ 192 → m < 8
-    → little (part (rowFrom g bodies channel) (f + 8 - (m + 1)) (m + 1))
-    ≡ little (part (rowFrom g bodies channel) (f + 8 - m) m) * 2 + g (get_or bodies (2 * (f + 7 - m) + channel) 0) % 2
+    → little (part (row_from g bodies channel) (f + 8 - (m + 1)) (m + 1))
+    ≡ little (part (row_from g bodies channel) (f + 8 - m) m) * 2 + g (get_or bodies (2 * (f + 7 - m) + channel) 0) % 2
 unfolding little part
 row_more g bodies channel f m hf h =
     let at = f + 7 - m in
     let p : f + 8 - (m + 1) ≡ at = omega arith in
     let q : f + 8 - m ≡ suc at = omega arith in
-    let d : digit (get_or (rowFrom g bodies channel) at false) ≡ g (get_or bodies (2 * at + channel) 0) % 2 =
-    ap digit (getD-channel-row g bodies channel at (omega arith)) ∙ digit-odd (g (get_or bodies (2 * at + channel) 0)) in
+    let d : digit (get_or (row_from g bodies channel) at false) ≡ g (get_or bodies (2 * at + channel) 0) % 2 =
+    ap digit (get_or-channel-row g bodies channel at (omega arith)) ∙ digit-odd (g (get_or bodies (2 * at + channel) 0)) in
     rw (p, q, add-one m) (omega arith)
 
 module _ (bodies : List ℕ) (channel f m : ℕ) where
   pub more : (gs : List (ℕ → ℕ)) → f + 8 ≤ 192 → m < 8
       → gathered gs bodies channel (f + 8 - (m + 1)) (m + 1)
-      ≡ gathered gs bodies channel (f + 8 - m) m * 2 + digitsOf gs (get_or bodies (2 * (f + 7 - m) + channel) 0)
-  unfolding gathered digitsOf
+      ≡ gathered gs bodies channel (f + 8 - m) m * 2 + digits_of gs (get_or bodies (2 * (f + 7 - m) + channel) 0)
+  unfolding gathered digits_of
   more [] hf h = refl
   more (g ∷ gs) hf h = omega (arith, row_more g bodies channel f m hf h, more gs hf h)
 
-  pub row_lt : (g : ℕ → ℕ) → m ≤ 8 → little (part (rowFrom g bodies channel) f m) < 256
+  pub row_lt : (g : ℕ → ℕ) → m ≤ 8 → little (part (row_from g bodies channel) f m) < 256
   row_lt g h =
       omega (
         arith,
-        rw (length_part (rowFrom g bodies channel) f m) at (little-lt (part (rowFrom g bodies channel) f m)),
+        rw (length_part (row_from g bodies channel) f m) at (little-lt (part (row_from g bodies channel) f m)),
         pow_mono {i = m} {j = 8} h,
       )
 

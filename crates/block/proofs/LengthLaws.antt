@@ -25,11 +25,11 @@ use Rattle.status.specs.declared.WordLength.TheVariants as word
 use Rattle.status.specs.declared.Audio.TheVariants.{LinearPcm, OtherPurpose}
 use Rattle.status.specs.declared.Use.{Use}
 use Rattle.status.specs.declared.Use.TheVariants.{Consumer, Professional}
-use Rattle.status.specs.Meaning.{meaningOf}
+use Rattle.status.specs.Meaning.{meaning_of}
 use Rattle.status.proofs.Lengths.{undeclared}
-use Rattle.block.specs.Length.{oneBelow, busyWith, busyUnder}
-use Rattle.block.specs.Check.{meaningIn, overlong}
-use Rattle.block.specs.Inner.{maskBelow, maskWith, maskUnder, masked}
+use Rattle.block.specs.Length.{one_below, busy_with, busy_under}
+use Rattle.block.specs.Check.{meaning_in, overlong}
+use Rattle.block.specs.Inner.{mask_below, mask_with, mask_under, masked}
 
 -- a number moved up is 0 exactly if it is
 moved_up : (k y : ℕ) → eqb (y * 2 ^ k) 0 ≡ eqb y 0
@@ -38,38 +38,38 @@ moved_up k y =
     (λ (n : y ≡ 0 → ⊥). ne_eqb (y * 2 ^ k) 0 (λ e. n (sym (shl-shr y k) ∙ ap (λ (x : ℕ). x / 2 ^ k) e ∙ zero-div (2 ^ k))) ∙ sym (ne_eqb y 0 n))
     (same_or_not y 0)
 
-below : (l : WordLength) (width free x : ℕ) → oneBelow l width (x / 2 ^ free) ≡ not (eqb (bit_and x (maskBelow l width free)) 0)
-unfolding oneBelow maskBelow
+below : (l : WordLength) (width free x : ℕ) → one_below l width (x / 2 ^ free) ≡ not (eqb (bit_and x (mask_below l width free)) 0)
+unfolding one_below mask_below
 below word.NotIndicated width free x = rw (and_zero_r x)
 below (word.Bits n) width free x = rw (and_high x (width - n) free) (ap not (sym (moved_up free (x / 2 ^ free % 2 ^ (width - n)))))
 below (word.Reserved y) width free x = rw (and_zero_r x)
 
-with-use : (a : Auxiliary) (l : WordLength) (x : ℕ) → busyWith a l x ≡ not (eqb (bit_and x (maskWith a l)) 0)
-unfolding busyWith maskWith
+with-use : (a : Auxiliary) (l : WordLength) (x : ℕ) → busy_with a l x ≡ not (eqb (bit_and x (mask_with a l)) 0)
+unfolding busy_with mask_with
 with-use auxiliary.MainAudio l x = rw (div-one x) at (below l 24 0 x)
 with-use auxiliary.NotDefined l x = below l 20 4 x
 with-use auxiliary.Coordination l x = below l 20 4 x
 with-use auxiliary.UserDefined l x = rw (and_zero_r x)
 with-use (auxiliary.Reserved y) l x = rw (and_zero_r x)
 
-under : (u : Use) (x : ℕ) → busyUnder u x ≡ not (eqb (bit_and x (maskUnder u)) 0)
-unfolding busyUnder maskUnder
+under : (u : Use) (x : ℕ) → busy_under u x ≡ not (eqb (bit_and x (mask_under u)) 0)
+unfolding busy_under mask_under
 under Consumer x = rw (and_zero_r x)
 under (Professional (LinearPcm d)) x = with-use d.auxiliary d.word_length x
 under (Professional (OtherPurpose d)) x = rw (and_zero_r x)
 
 -- ---- as code computes the mask
 
-not-indicated : (a : Auxiliary) → maskWith a word.NotIndicated ≡ 0
-unfolding maskWith maskBelow
+not-indicated : (a : Auxiliary) → mask_with a word.NotIndicated ≡ 0
+unfolding mask_with mask_below
 not-indicated auxiliary.MainAudio = refl
 not-indicated auxiliary.NotDefined = refl
 not-indicated auxiliary.Coordination = refl
 not-indicated auxiliary.UserDefined = refl
 not-indicated (auxiliary.Reserved y) = refl
 
-reserved : (a : Auxiliary) (x : ℕ) → maskWith a (word.Reserved x) ≡ 0
-unfolding maskWith maskBelow
+reserved : (a : Auxiliary) (x : ℕ) → mask_with a (word.Reserved x) ≡ 0
+unfolding mask_with mask_below
 reserved auxiliary.MainAudio x = refl
 reserved auxiliary.NotDefined x = refl
 reserved auxiliary.Coordination x = refl
@@ -77,12 +77,12 @@ reserved auxiliary.UserDefined x = refl
 reserved (auxiliary.Reserved y) x = refl
 
 -- where byte 2 declares no length the mask is empty
-pub mask-undeclared : (byte0 byte1 byte2 : ℕ) → byte2 / 8 % 8 ≡ 0 → maskUnder (meaningOf byte0 byte1 byte2) ≡ 0
-unfolding maskUnder
+pub mask-undeclared : (byte0 byte1 byte2 : ℕ) → byte2 / 8 % 8 ≡ 0 → mask_under (meaning_of byte0 byte1 byte2) ≡ 0
+unfolding mask_under
 mask-undeclared byte0 byte1 byte2 e =
-    undeclared (λ (u : Use). maskUnder u ≡ 0) refl
-    (λ d h. ⊎_elim (λ (n : d.word_length ≡ word.NotIndicated). ap (maskWith d.auxiliary) n ∙ not-indicated d.auxiliary)
-    (λ (r : d.word_length ≡ word.Reserved 0). ap (maskWith d.auxiliary) r ∙ reserved d.auxiliary 0) h)
+    undeclared (λ (u : Use). mask_under u ≡ 0) refl
+    (λ d h. ⊎_elim (λ (n : d.word_length ≡ word.NotIndicated). ap (mask_with d.auxiliary) n ∙ not-indicated d.auxiliary)
+    (λ (r : d.word_length ≡ word.Reserved 0). ap (mask_with d.auxiliary) r ∙ reserved d.auxiliary 0) h)
     (λ d. refl) byte0 byte1 byte2 e
 
 pub one_shifted : (k : ℕ) → k < 32 → 1 * 2 ^ k % 2 ^ 32 ≡ 2 ^ k
@@ -108,16 +108,16 @@ module _ (samples : List ℤ) (a b i : ℕ) where
 
 -- a sample is longer than its status declares exactly if the mask of its channel finds it
 pub overlong-masked : (samples : List ℤ) (side : List ℕ) (i : ℕ)
-    → overlong samples side i ≡ masked samples (maskUnder (meaningIn side 0)) (maskUnder (meaningIn side 1)) i
+    → overlong samples side i ≡ masked samples (mask_under (meaning_in side 0)) (mask_under (meaning_in side 1)) i
 unfolding overlong masked
 overlong-masked samples side i =
-    digit-cases (λ (k : ℕ). busyUnder (meaningIn side k) (code_of 24 (get_or samples i (pos 0)))
-    ≡ not (eqb (bit_and (code_of 24 (get_or samples i (pos 0))) (pick (eqb k 0) (maskUnder (meaningIn side 0)) (maskUnder (meaningIn side 1)))) 0))
-    (under (meaningIn side 0) _) (under (meaningIn side 1) _) (i % 2) (omega arith)
+    digit-cases (λ (k : ℕ). busy_under (meaning_in side k) (code_of 24 (get_or samples i (pos 0)))
+    ≡ not (eqb (bit_and (code_of 24 (get_or samples i (pos 0))) (pick (eqb k 0) (mask_under (meaning_in side 0)) (mask_under (meaning_in side 1)))) 0))
+    (under (meaning_in side 0) _) (under (meaning_in side 1) _) (i % 2) (omega arith)
 
 pub first-masked-is : (samples : List ℤ) (side : List ℕ)
-    → first (masked samples (maskUnder (meaningIn side 0)) (maskUnder (meaningIn side 1))) 0 384 (λ i. i) 384
+    → first (masked samples (mask_under (meaning_in side 0)) (mask_under (meaning_in side 1))) 0 384 (λ i. i) 384
     ≡ first (overlong samples side) 0 384 (λ i. i) 384
 first-masked-is samples side =
-    first-map (λ (i : ℕ). i) (overlong samples side) (masked samples (maskUnder (meaningIn side 0)) (maskUnder (meaningIn side 1))) 0 384 (λ i. i) (λ i. i) 384
+    first-map (λ (i : ℕ). i) (overlong samples side) (masked samples (mask_under (meaning_in side 0)) (mask_under (meaning_in side 1))) 0 384 (λ i. i) (λ i. i) 384
     (λ i l. sym (overlong-masked samples side i)) (λ i. refl)

@@ -13,12 +13,12 @@ use Rattle.bits.specs.Row.{digit, odd, bit}
 use Rattle.bits.proofs.Digits.{odd-digit}
 use Rattle.bits.proofs.Every.{agree}
 use Rattle.bits.proofs.Places.{some, some-split, some_same}
-use Rattle.block.specs.Side.{columns, columnLength, sideBit}
+use Rattle.block.specs.Side.{columns, column_length, side_bit}
 use Rattle.block.proofs.SideLaws.{side-in}
 
 -- the bit of a frame in column k is 0
-abbrev pub noV : List ℕ → ℕ → ℕ → Bool
-noV side k f = eqb (sideBit side k f) 0
+abbrev pub no_v : List ℕ → ℕ → ℕ → Bool
+no_v side k f = eqb (side_bit side k f) 0
 
 -- one of the eight bits of an octet is 0 where it is not 255
 some-zero : (x : ℕ) → x < 256 → some (λ i. eqb (bit i x) 0) 0 8 ≡ not (eqb x 255)
@@ -28,33 +28,33 @@ some-zero x h =
     ∙ ap odd (agree 256 (λ y. digit (some (λ i. eqb (bit i y) 0) 0 8)) (λ y. digit (not (eqb y 255))) tt x h)
     ∙ odd-digit (not (eqb x 255))
 
-module _ (side : List ℕ) (k j : ℕ) (hk : k < 2 * columns) (hj : j < columnLength) where
-  eight : get_or side (columnLength * k + j) 0 < 256 → some (noV side k) (j * 8) 8 ≡ not (eqb (get_or side (columnLength * k + j) 0) 255)
+module _ (side : List ℕ) (k j : ℕ) (hk : k < 2 * columns) (hj : j < column_length) where
+  eight : get_or side (column_length * k + j) 0 < 256 → some (no_v side k) (j * 8) 8 ≡ not (eqb (get_or side (column_length * k + j) 0) 255)
   eight h =
-      some_same (noV side k) (λ i. eqb (bit i (get_or side (columnLength * k + j) 0)) 0) (j * 8) 0 8 same ∙ some-zero (get_or side (columnLength * k + j) 0) h
+      some_same (no_v side k) (λ i. eqb (bit i (get_or side (column_length * k + j) 0)) 0) (j * 8) 0 8 same ∙ some-zero (get_or side (column_length * k + j) 0) h
     where
-      same : (i : ℕ) → i < 8 → noV side k (j * 8 + i) ≡ eqb (bit (0 + i) (get_or side (columnLength * k + j) 0)) 0
+      same : (i : ℕ) → i < 8 → no_v side k (j * 8 + i) ≡ eqb (bit (0 + i) (get_or side (column_length * k + j) 0)) 0
       same i l =
           let p : (j * 8 + i) % 8 ≡ 0 + i = omega arith in
-          let q : columnLength * k + (j * 8 + i) / 8 ≡ columnLength * k + j = omega arith in
+          let q : column_length * k + (j * 8 + i) / 8 ≡ column_length * k + j = omega arith in
           ap (λ (d : ℕ). eqb d 0) (side-in side k (j * 8 + i) hk (omega arith)
           ∙ ap₂ (λ (b o : ℕ). bit b (get_or side o 0)) p q)
 
-  split : some (noV side k) (j * 8) (192 - j * 8)
-      ≡ pick (some (noV side k) (j * 8) 8) true (some (noV side k) ((j + 1) * 8) (192 - (j + 1) * 8))
+  split : some (no_v side k) (j * 8) (192 - j * 8)
+      ≡ pick (some (no_v side k) (j * 8) 8) true (some (no_v side k) ((j + 1) * 8) (192 - (j + 1) * 8))
   split =
       let n : 192 - j * 8 ≡ 8 + (192 - (j + 1) * 8) = omega arith in
       let m : j * 8 + 8 ≡ (j + 1) * 8 = omega arith in
-      rw (n, some-split (noV side k) (j * 8) 8 (192 - (j + 1) * 8), m)
+      rw (n, some-split (no_v side k) (j * 8) 8 (192 - (j + 1) * 8), m)
 
-  pub octet-one : get_or side (columnLength * k + j) 0 < 256 → get_or side (columnLength * k + j) 0 ≢ 255 → some (noV side k) (j * 8) (192 - j * 8) ≡ true
-  octet-one h ne = rw (split, eight h, ne_eqb (get_or side (columnLength * k + j) 0) 255 ne)
+  pub octet-one : get_or side (column_length * k + j) 0 < 256 → get_or side (column_length * k + j) 0 ≢ 255 → some (no_v side k) (j * 8) (192 - j * 8) ≡ true
+  octet-one h ne = rw (split, eight h, ne_eqb (get_or side (column_length * k + j) 0) 255 ne)
 
-  pub octet-none : get_or side (columnLength * k + j) 0 ≡ 255
-      → some (noV side k) (j * 8) (192 - j * 8) ≡ some (noV side k) ((j + 1) * 8) (192 - (j + 1) * 8)
-  octet-none e = rw (split, eight (omega arith), eq-eqb (get_or side (columnLength * k + j) 0) 255 e)
+  pub octet-none : get_or side (column_length * k + j) 0 ≡ 255
+      → some (no_v side k) (j * 8) (192 - j * 8) ≡ some (no_v side k) ((j + 1) * 8) (192 - (j + 1) * 8)
+  octet-none e = rw (split, eight (omega arith), eq-eqb (get_or side (column_length * k + j) 0) 255 e)
 
-pub none_left : (side : List ℕ) (k j : ℕ) → columnLength ≤ j → some (noV side k) (j * 8) (192 - j * 8) ≡ false
+pub none_left : (side : List ℕ) (k j : ℕ) → column_length ≤ j → some (no_v side k) (j * 8) (192 - j * 8) ≡ false
 unfolding first
 none_left side k j h =
     let n : 192 - j * 8 ≡ 0 = omega arith in

@@ -11,22 +11,22 @@ use Rattle.status.specs.declared.Use.{Use}
 use Rattle.status.specs.declared.Use.TheVariants.{Consumer, Professional}
 
 -- a word of so many bits has a 1 below the declared length; one that is not declared, or reserved, binds nothing
-unfoldable pub oneBelow : WordLength → ℕ → ℕ → Bool
-oneBelow word.NotIndicated width x = false
-oneBelow (word.Bits n) width x = not (eqb (x % 2 ^ (width - n)) 0)
-oneBelow (word.Reserved y) width x = false
+unfoldable pub one_below : WordLength → ℕ → ℕ → Bool
+one_below word.NotIndicated width x = false
+one_below (word.Bits n) width x = not (eqb (x % 2 ^ (width - n)) 0)
+one_below (word.Reserved y) width x = false
 
 -- with 24-bit use the word is all 24 bits of the sample; with 20-bit use it is the 20 in slots 8 to 27, and the four in
 -- slots 4 to 7 are free; a user-defined or reserved use binds nothing
-unfoldable pub busyWith : Auxiliary → WordLength → ℕ → Bool
-busyWith auxiliary.MainAudio length x = oneBelow length 24 x
-busyWith auxiliary.NotDefined length x = oneBelow length 20 (x / 2 ^ 4)
-busyWith auxiliary.Coordination length x = oneBelow length 20 (x / 2 ^ 4)
-busyWith auxiliary.UserDefined length x = false
-busyWith (auxiliary.Reserved y) length x = false
+unfoldable pub busy_with : Auxiliary → WordLength → ℕ → Bool
+busy_with auxiliary.MainAudio length x = one_below length 24 x
+busy_with auxiliary.NotDefined length x = one_below length 20 (x / 2 ^ 4)
+busy_with auxiliary.Coordination length x = one_below length 20 (x / 2 ^ 4)
+busy_with auxiliary.UserDefined length x = false
+busy_with (auxiliary.Reserved y) length x = false
 
 -- the 24 bits of a sample under a meaning of status; audio for another purpose is not bound, nor is consumer use
-unfoldable pub busyUnder : Use → ℕ → Bool
-busyUnder Consumer x = false
-busyUnder (Professional (LinearPcm d)) x = busyWith d.auxiliary d.word_length x
-busyUnder (Professional (OtherPurpose d)) x = false
+unfoldable pub busy_under : Use → ℕ → Bool
+busy_under Consumer x = false
+busy_under (Professional (LinearPcm d)) x = busy_with d.auxiliary d.word_length x
+busy_under (Professional (OtherPurpose d)) x = false

@@ -1,24 +1,24 @@
 // What a writer asks of the status of each channel: professional use, a right CRCC, and every V set where the audio is
 // of another purpose.
 ghost use Rattle.std.specs.Prelude.{◌≡◌, ◌<◌, length, get_or};
-ghost use Rattle.answer.specs.Said.{verdictSaid};
-ghost use Rattle.block.specs.Side.{columnLength, sideLength};
-ghost use Rattle.block.specs.Check.{statusOf, consumer, wrong, someValid, unmarked, statusChecked};
+ghost use Rattle.answer.specs.Said.{verdict_said};
+ghost use Rattle.block.specs.Side.{column_length, side_length};
+ghost use Rattle.block.specs.Check.{status_of, consumer, wrong, some_valid, unmarked, status_checked};
 
 use crate::{C, COLUMN, COLUMNS, V};
 use answer::Verdict;
 
 // A byte of a channel's status.
 pub(crate) fn status_byte(side: &[u8], channel: usize, byte: usize) -> u8
-    requires { (length side.now ≡ sideLength) × (channel < 2) × (byte < columnLength) }
-    ensures { result ≡ get_or (statusOf channel side.now) byte 0 }
+    requires { (length side.now ≡ side_length) × (channel < 2) × (byte < column_length) }
+    ensures { result ≡ get_or (status_of channel side.now) byte 0 }
 {
     side[COLUMN * (COLUMNS * channel + C) + byte]
 }
 
 // Whether byte 0 bit 0 is 0.
 fn is_consumer(side: &[u8], channel: usize) -> bool
-    requires { (length side.now ≡ sideLength) × (channel < 2) }
+    requires { (length side.now ≡ side_length) × (channel < 2) }
     ensures { result ≡ consumer side.now channel }
 {
     status_byte(side, channel, 0) % 2 == 0
@@ -26,7 +26,7 @@ fn is_consumer(side: &[u8], channel: usize) -> bool
 
 // Whether byte 23 is wrong.
 fn is_wrong(side: &[u8], channel: usize) -> bool
-    requires { (length side.now ≡ sideLength) × (channel < 2) }
+    requires { (length side.now ≡ side_length) × (channel < 2) }
     ensures { result ≡ wrong side.now channel }
 {
     if crate::status_right(side, channel) {
@@ -37,8 +37,8 @@ fn is_wrong(side: &[u8], channel: usize) -> bool
 
 // Whether some V of the channel is 0: an octet of V is not all ones.
 fn has_valid(side: &[u8], channel: usize) -> bool
-    requires { (length side.now ≡ sideLength) × (channel < 2) }
-    ensures { result ≡ someValid side.now channel }
+    requires { (length side.now ≡ side_length) × (channel < 2) }
+    ensures { result ≡ some_valid side.now channel }
 {
     let at = COLUMN * (COLUMNS * channel + V);
     let mut j = 0;
@@ -53,7 +53,7 @@ fn has_valid(side: &[u8], channel: usize) -> bool
 
 // Whether byte 0 bit 1 is 1 and some V of the channel is 0.
 fn is_unmarked(side: &[u8], channel: usize) -> bool
-    requires { (length side.now ≡ sideLength) × (channel < 2) }
+    requires { (length side.now ≡ side_length) × (channel < 2) }
     ensures { result ≡ unmarked side.now channel }
 {
     if status_byte(side, channel, 0) / 2 % 2 != 1 {
@@ -64,8 +64,8 @@ fn is_unmarked(side: &[u8], channel: usize) -> bool
 
 // Refusals 4, 5 and 6, each for both channels.
 pub(crate) fn check_status(side: &[u8]) -> Verdict
-    requires { length side.now ≡ sideLength }
-    ensures { verdictSaid result ≡ statusChecked side.now }
+    requires { length side.now ≡ side_length }
+    ensures { verdict_said result ≡ status_checked side.now }
 {
     if is_consumer(side, 0) {
         return Verdict::Refused {

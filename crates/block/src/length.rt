@@ -1,14 +1,14 @@
 // The word length that a status declares, as a mask: the bits of a sample that must then be 0.
 ghost use Rattle.std.specs.Prelude.{◌≡◌, ◌≤◌};
-ghost use Rattle.status.specs.Meaning.{meaningOf};
-ghost use Rattle.block.specs.Inner.{maskBelow, maskWith, maskUnder};
+ghost use Rattle.status.specs.Meaning.{meaning_of};
+ghost use Rattle.block.specs.Inner.{mask_below, mask_with, mask_under};
 
 use status::{Audio, Auxiliary, Description, Use, WordLength};
 
 // The bits below a declared length in a word of a sample, which leaves the sample's lowest bits free.
 fn mask_below(declared: WordLength, width: u32, free: u32) -> u32
     requires { (width ≤ 24) × (free ≤ 4) }
-    ensures { result ≡ maskBelow declared width free }
+    ensures { result ≡ mask_below declared width free }
 {
     match declared {
         WordLength::NotIndicated => 0,
@@ -25,7 +25,7 @@ fn mask_below(declared: WordLength, width: u32, free: u32) -> u32
 
 // The bits of a sample that must be 0: of all 24, or of the 20 in slots 8 to 27.
 fn mask_with(d: Description) -> u32
-    ensures { result ≡ maskWith d.auxiliary d.word_length }
+    ensures { result ≡ mask_with d.auxiliary d.word_length }
 {
     let auxiliary = d.auxiliary;
     let declared = d.word_length;
@@ -40,7 +40,7 @@ fn mask_with(d: Description) -> u32
 
 // The same by bytes 0 to 2 of a status. Most often byte 2 declares no length, and nothing else has to be looked at.
 pub fn mask_of(byte0: u8, byte1: u8, byte2: u8) -> u32
-    ensures { result ≡ maskUnder (meaningOf byte0 byte1 byte2) }
+    ensures { result ≡ mask_under (meaning_of byte0 byte1 byte2) }
 {
     if byte2 / 8 % 8 == 0 {
         return 0;

@@ -2,11 +2,11 @@
 // of them.
 ghost use Rattle.std.specs.Prelude.{◌≡◌, length};
 ghost use Rattle.answer.specs.Answer.{verdict, after};
-ghost use Rattle.answer.specs.Said.{verdictSaid};
-ghost use Rattle.block.specs.Side.{sideLength};
-ghost use Rattle.block.specs.Block.{samplesOf, side_of, blockFilled};
-ghost use Rattle.block.specs.Check.{statusRight, checked};
-ghost use Rattle.block.specs.Inner.{AllInRange, Gathers, checkedByStatus};
+ghost use Rattle.answer.specs.Said.{verdict_said};
+ghost use Rattle.block.specs.Side.{side_length};
+ghost use Rattle.block.specs.Block.{samples_of, side_of, block_filled};
+ghost use Rattle.block.specs.Check.{status_right, checked};
+ghost use Rattle.block.specs.Inner.{AllInRange, Gathers, checked_by_status};
 
 mod by_status;
 mod fault_map;
@@ -40,9 +40,9 @@ pub const SIDE: usize = 2 * CHANNEL;
 // The samples and the side table of 384 bodies, whatever stood in the buffers: refusal 1 where a length is not as
 // stated.
 pub fn fill_block(bodies: &[u32], samples: &mut [i32], side: &mut [u8]) -> Verdict
-    ensures result_value { verdictSaid result ≡ verdict (blockFilled bodies.now (length samples.old) (length side.old)) }
-    ensures samples_after { samples.new ≡ after samplesOf (blockFilled bodies.now (length samples.old) (length side.old)) samples.old }
-    ensures side_after { side.new ≡ after side_of (blockFilled bodies.now (length samples.old) (length side.old)) side.old }
+    ensures result_value { verdict_said result ≡ verdict (block_filled bodies.now (length samples.old) (length side.old)) }
+    ensures samples_after { samples.new ≡ after samples_of (block_filled bodies.now (length samples.old) (length side.old)) samples.old }
+    ensures side_after { side.new ≡ after side_of (block_filled bodies.now (length samples.old) (length side.old)) side.old }
 {
     if bodies.len() != 384 {
         return Verdict::Refused {
@@ -70,7 +70,7 @@ pub fn fill_block(bodies: &[u32], samples: &mut [i32], side: &mut [u8]) -> Verdi
 
 // Whether the CRCC of a channel's status is right.
 pub fn status_right(side: &[u8], channel: usize) -> bool
-    ensures { result ≡ statusRight side.now channel }
+    ensures { result ≡ status_right side.now channel }
 {
     if side.len() != SIDE {
         return false;
@@ -85,8 +85,8 @@ pub fn status_right(side: &[u8], channel: usize) -> bool
 
 // Refusals 4, 5, 6 and 18 of a block whose samples are in range: by its status, and by the length that it declares.
 fn check_by_status(samples: &[i32], all: u64, side: &[u8]) -> Verdict
-    requires { (length samples.now ≡ 384) × (length side.now ≡ sideLength) × AllInRange samples.now × Gathers samples.now 192 all }
-    ensures { verdictSaid result ≡ checkedByStatus samples.now side.now }
+    requires { (length samples.now ≡ 384) × (length side.now ≡ side_length) × AllInRange samples.now × Gathers samples.now 192 all }
+    ensures { verdict_said result ≡ checked_by_status samples.now side.now }
 {
     let status = by_status::check_status(side);
     if let Verdict::Refused { number, place } = status {
@@ -104,7 +104,7 @@ fn check_by_status(samples: &[i32], all: u64, side: &[u8]) -> Verdict
 
 // Refusals 1, 20, 3, 4, 5, 6 and 18 of a block.
 pub fn check_block(samples: &[i32], side: &[u8]) -> Verdict
-    ensures { verdictSaid result ≡ checked samples.now side.now }
+    ensures { verdict_said result ≡ checked samples.now side.now }
 {
     if samples.len() != 384 {
         return Verdict::Refused {

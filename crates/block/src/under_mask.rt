@@ -3,9 +3,9 @@ ghost use Rattle.std.specs.Prelude.{◌≡◌, true, ◌+◌, ◌*◌, ◌%◌, 
 ghost use Rattle.std.specs.Int.Bits.{bit_and};
 ghost use Rattle.bits.specs.Pick.{pick, first};
 ghost use Rattle.subframe.specs.Signed.{in_range, code_of};
-ghost use Rattle.block.specs.Side.{sideLength};
-ghost use Rattle.block.specs.Check.{meaningIn, overlong};
-ghost use Rattle.block.specs.Inner.{maskUnder, AllInRange, masked, Gathers};
+ghost use Rattle.block.specs.Side.{side_length};
+ghost use Rattle.block.specs.Check.{meaning_in, overlong};
+ghost use Rattle.block.specs.Inner.{mask_under, AllInRange, masked, Gathers};
 
 use crate::{by_status, length};
 
@@ -59,8 +59,8 @@ fn first_masked(samples: &[i32], all: u64, a: u32, b: u32) -> usize
 
 // The bits of a channel's samples that must be 0, by its status.
 fn mask_under(side: &[u8], channel: usize) -> u32
-    requires { (length side.now ≡ sideLength) × (channel < 2) }
-    ensures { result ≡ maskUnder (meaningIn side.now channel) }
+    requires { (length side.now ≡ side_length) × (channel < 2) }
+    ensures { result ≡ mask_under (meaning_in side.now channel) }
 {
     let byte0 = by_status::status_byte(side, channel, 0);
     let byte1 = by_status::status_byte(side, channel, 1);
@@ -70,7 +70,7 @@ fn mask_under(side: &[u8], channel: usize) -> u32
 
 // The first sample with a 1 below the length that its channel's status declares, or 384.
 pub(crate) fn first_overlong(samples: &[i32], all: u64, side: &[u8]) -> usize
-    requires { (length samples.now ≡ 384) × (length side.now ≡ sideLength) × AllInRange samples.now × Gathers samples.now 192 all }
+    requires { (length samples.now ≡ 384) × (length side.now ≡ side_length) × AllInRange samples.now × Gathers samples.now 192 all }
     ensures { result ≡ first (overlong samples.now side.now) 0 384 (λ i. i) 384 }
 {
     let a = mask_under(side, 0);

@@ -12,18 +12,18 @@ use lib.Pow.{pow_pos}
 use lib.ListN.{length, get_or, take, drop, take-append-drop, length-map, length-drop, drop_of_length-le}
 use lib.Seq.{ext_get_or, drop-cons, length-take-le}
 use lib.Bits.{bit_xor, xor_lt}
-use Rattle.bits.specs.Row.{Row, bits, little, xorRow, Below}
+use Rattle.bits.specs.Row.{Row, bits, little, xor_row, Below}
 use Rattle.bits.specs.Cross.{across, crossed}
 use Rattle.bits.proofs.Rows.{little-bits, little-lt}
 use Rattle.bits.proofs.Bounds.{below-drop}
-use Rattle.bits.proofs.Crossing.{length-across, length-crossed, getD-crossed, crossed-twice, across-crossed}
-use Rattle.bits.proofs.Beside.{bits-front, little-back, across-append, little-xor, odd-xor-at, getD-map-in}
+use Rattle.bits.proofs.Crossing.{length-across, length-crossed, get_or-crossed, crossed-twice, across-crossed}
+use Rattle.bits.proofs.Beside.{bits-front, little-back, across-append, little-xor, odd-xor-at, get_or-map-in}
 use Rattle.codes.specs.Divide.{through}
-use Rattle.codes.specs.Lane.{laneGenerator, laneCheck, checkPlaces, satisfies}
+use Rattle.codes.specs.Lane.{lane_generator, lane_check, check_places, satisfies}
 use Rattle.codes.proofs.Syndrome.{syndrome-lt, check-lt, by-syndrome}
-use Rattle.codes.specs.Lanes.{lane_of, lanes_of, checkOctets, failing}
-use Rattle.codes.specs.Inner.{syndrome, lackOctets}
-use Rattle.codes.proofs.Wide.{fedAll, fed-lane, fed-below, six-below}
+use Rattle.codes.specs.Lanes.{lane_of, lanes_of, check_octets, failing}
+use Rattle.codes.specs.Inner.{syndrome, lack_octets}
+use Rattle.codes.proofs.Wide.{fed_all, fed-lane, fed-below, six-below}
 
 -- ---- the lanes as a list
 
@@ -31,9 +31,9 @@ pub length-lanes : (os : List ℕ) → length (lanes_of os) ≡ 8
 unfolding lanes_of
 length-lanes os = length-crossed 0 8 os
 
-pub getD-lanes : (os : List ℕ) (i : ℕ) → i < 8 → get_or (lanes_of os) i 0 ≡ lane_of i os
+pub get_or-lanes : (os : List ℕ) (i : ℕ) → i < 8 → get_or (lanes_of os) i 0 ≡ lane_of i os
 unfolding lanes_of lane_of
-getD-lanes os i h = getD-crossed 0 8 os i h ∙ ap (λ (k : ℕ). little (across k os)) (zero-add i)
+get_or-lanes os i h = get_or-crossed 0 8 os i h ∙ ap (λ (k : ℕ). little (across k os)) (zero-add i)
 
 -- octets below 256 are those across their lanes, and the lanes of the numbers across eight lanes are these
 module _ (ls : List ℕ) (eight : length ls ≡ 8) where
@@ -42,7 +42,7 @@ module _ (ls : List ℕ) (eight : length ls ≡ 8) where
   by-lanes n xs e b same =
       sym (crossed-twice 8 xs b) ∙ ap₂ (λ (m : ℕ) (k : List ℕ). crossed 0 m k) e
       (ext_get_or 0 (lanes_of xs) ls (length-lanes xs ∙ sym eight)
-      (λ i l. let h : i < 8 = rw (length-lanes xs) at l in getD-lanes xs i h ∙ same i h))
+      (λ i l. let h : i < 8 = rw (length-lanes xs) at l in get_or-lanes xs i h ∙ same i h))
 
   pub lane-across : (n i : ℕ) → i < 8 → get_or ls i 0 < 2 ^ n → lane_of i (crossed 0 n ls) ≡ get_or ls i 0
   unfolding lane_of
@@ -54,7 +54,7 @@ module _ (f : ℕ → ℕ) (os : List ℕ) where
   map-lanes = length-map (lanes_of os) f ∙ length-lanes os
 
   pub map-lane : (i : ℕ) → i < 8 → get_or (map f (lanes_of os)) i 0 ≡ f (lane_of i os)
-  map-lane i h = getD-map-in f 0 (lanes_of os) i (rw length-lanes h) ∙ ap f (getD-lanes os i h)
+  map-lane i h = get_or-map-in f 0 (lanes_of os) i (rw length-lanes h) ∙ ap f (get_or-lanes os i h)
 
   pub by_map : (n : ℕ) (xs : List ℕ) → length xs ≡ n → Below (2 ^ 8) xs → ((i : ℕ) → i < 8 → lane_of i xs ≡ f (lane_of i os))
       → xs ≡ crossed 0 n (map f (lanes_of os))
@@ -90,17 +90,17 @@ module _ (ds : List ℕ) (h : length ds ≡ 24) (i : ℕ) where
   long = length-across i ds ∙ h
 
   -- check places of a lane do not count
-  data-check : (es : List ℕ) → checkPlaces (lane_of i (ds ++ es)) ≡ through 6 laneGenerator 0 (across i ds)
-  unfolding checkPlaces laneCheck lane_of
+  data-check : (es : List ℕ) → check_places (lane_of i (ds ++ es)) ≡ through 6 lane_generator 0 (across i ds)
+  unfolding check_places lane_check lane_of
   data-check es =
-      ap (λ (r : Row). through 6 laneGenerator 0 (bits 24 (little r))) (across-append i ds es)
-      ∙ ap (through 6 laneGenerator 0)
+      ap (λ (r : Row). through 6 lane_generator 0 (bits 24 (little r))) (across-append i ds es)
+      ∙ ap (through 6 lane_generator 0)
       (ap (λ (m : ℕ). bits m (little (across i ds ++ across i es))) (sym long) ∙ bits-front (across i ds) (across i es))
 
-  lane-check : checkPlaces (lane_of i ds) ≡ through 6 laneGenerator 0 (across i ds)
-  lane-check = ap (λ (l : List ℕ). checkPlaces (lane_of i l)) (sym (append-nil ds)) ∙ data-check []
+  lane-check : check_places (lane_of i ds) ≡ through 6 lane_generator 0 (across i ds)
+  lane-check = ap (λ (l : List ℕ). check_places (lane_of i l)) (sym (append-nil ds)) ∙ data-check []
 
-  pub check-whole : (es : List ℕ) → checkPlaces (lane_of i (ds ++ es)) ≡ checkPlaces (lane_of i ds)
+  pub check-whole : (es : List ℕ) → check_places (lane_of i (ds ++ es)) ≡ check_places (lane_of i ds)
   check-whole es = data-check es ∙ sym lane-check
 
   -- the check places
@@ -110,28 +110,28 @@ module _ (ds : List ℕ) (h : length ds ≡ 24) (i : ℕ) where
       ap (λ (r : Row). little r / 2 ^ 24) (across-append i ds es)
       ∙ (rw long at (little-back (across i ds) (across i es)))
 
-  wide-check : lane_of i (fedAll zeros ds) ≡ checkPlaces (lane_of i ds)
+  wide-check : lane_of i (fed_all zeros ds) ≡ check_places (lane_of i ds)
   unfolding lane_of
   wide-check =
-      fed-lane i ds 0 0 0 0 0 0 ∙ ap (λ (s : ℕ). through 6 laneGenerator s (across i ds)) (zeros-lane i) ∙ sym lane-check
+      fed-lane i ds 0 0 0 0 0 0 ∙ ap (λ (s : ℕ). through 6 lane_generator s (across i ds)) (zeros-lane i) ∙ sym lane-check
 
 -- what the divider holds after 24 octets
-pub checks-wide : (ds cs : List ℕ) → length ds ≡ 24 → Below (2 ^ 8) ds → length cs ≡ 6 → cs ≡ fedAll zeros ds → cs ≡ checkOctets ds
-unfolding checkOctets
+pub checks-wide : (ds cs : List ℕ) → length ds ≡ 24 → Below (2 ^ 8) ds → length cs ≡ 6 → cs ≡ fed_all zeros ds → cs ≡ check_octets ds
+unfolding check_octets
 checks-wide ds cs h b n e =
-    by_map checkPlaces ds 6 cs n (subst (Below (2 ^ 8)) (sym e) (fed-below zeros ds zeros-below b)) (λ i l. ap (lane_of i) e ∙ wide-check ds h i)
+    by_map check_places ds 6 cs n (subst (Below (2 ^ 8)) (sym e) (fed-below zeros ds zeros-below b)) (λ i l. ap (lane_of i) e ∙ wide-check ds h i)
 
-pub lane-checks : (ds : List ℕ) (i : ℕ) → i < 8 → lane_of i (checkOctets ds) ≡ checkPlaces (lane_of i ds)
-unfolding checkOctets
-lane-checks ds i h = lane-map checkPlaces ds 6 i h (check-lt (lane_of i ds))
+pub lane-checks : (ds : List ℕ) (i : ℕ) → i < 8 → lane_of i (check_octets ds) ≡ check_places (lane_of i ds)
+unfolding check_octets
+lane-checks ds i h = lane-map check_places ds 6 i h (check-lt (lane_of i ds))
 
-pub checks-below : (ds : List ℕ) → Below (2 ^ 8) (checkOctets ds)
-unfolding checkOctets
-checks-below ds = across-below (map checkPlaces (lanes_of ds)) (map-lanes checkPlaces ds) 6
+pub checks-below : (ds : List ℕ) → Below (2 ^ 8) (check_octets ds)
+unfolding check_octets
+checks-below ds = across-below (map check_places (lanes_of ds)) (map-lanes check_places ds) 6
 
-pub length-checks : (ds : List ℕ) → length (checkOctets ds) ≡ 6
-unfolding checkOctets
-length-checks ds = length-crossed 0 6 (map checkPlaces (lanes_of ds))
+pub length-checks : (ds : List ℕ) → length (check_octets ds) ≡ 6
+unfolding check_octets
+length-checks ds = length-crossed 0 6 (map check_places (lanes_of ds))
 
 -- ---- what is syndrome
 
@@ -150,7 +150,7 @@ last-six os h =
 xor-lane : (i c0 c1 c2 c3 c4 c5 e0 e1 e2 e3 e4 e5 : ℕ)
     → lane_of i (bit_xor c0 e0 ∷ bit_xor c1 e1 ∷ bit_xor c2 e2 ∷ bit_xor c3 e3 ∷ bit_xor c4 e4 ∷ bit_xor c5 e5 ∷ [])
     ≡ bit_xor (lane_of i (c0 ∷ c1 ∷ c2 ∷ c3 ∷ c4 ∷ c5 ∷ [])) (lane_of i (e0 ∷ e1 ∷ e2 ∷ e3 ∷ e4 ∷ e5 ∷ []))
-unfolding lane_of across xorRow
+unfolding lane_of across xor_row
 xor-lane i c0 c1 c2 c3 c4 c5 e0 e1 e2 e3 e4 e5 =
     simp (odd-xor-at i)
     (little-xor (across i (c0 ∷ c1 ∷ c2 ∷ c3 ∷ c4 ∷ c5 ∷ [])) (across i (e0 ∷ e1 ∷ e2 ∷ e3 ∷ e4 ∷ e5 ∷ [])) refl)
@@ -164,11 +164,11 @@ module _ (os : List ℕ) (h : length os ≡ 30) where
   first-24 = length-take-le 24 os (omega arith)
 
   pub lacks-wide : (c0 c1 c2 c3 c4 c5 : ℕ)
-      → (c0 ∷ c1 ∷ c2 ∷ c3 ∷ c4 ∷ c5 ∷ []) ≡ checkOctets (take 24 os)
+      → (c0 ∷ c1 ∷ c2 ∷ c3 ∷ c4 ∷ c5 ∷ []) ≡ check_octets (take 24 os)
       → Below (2 ^ 8) os
       → (bit_xor c0 (get_or os 24 0) ∷ bit_xor c1 (get_or os 25 0) ∷ bit_xor c2 (get_or os 26 0) ∷ bit_xor c3 (get_or os 27 0)
-      ∷ bit_xor c4 (get_or os 28 0) ∷ bit_xor c5 (get_or os 29 0) ∷ []) ≡ lackOctets os
-  unfolding lackOctets syndrome
+      ∷ bit_xor c4 (get_or os 28 0) ∷ bit_xor c5 (get_or os 29 0) ∷ []) ≡ lack_octets os
+  unfolding lack_octets syndrome
   lacks-wide c0 c1 c2 c3 c4 c5 e b =
       by_map syndrome os 6
       (bit_xor c0 (get_or os 24 0) ∷ bit_xor c1 (get_or os 25 0) ∷ bit_xor c2 (get_or os 26 0) ∷ bit_xor c3 (get_or os 27 0)
@@ -191,16 +191,16 @@ module _ (os : List ℕ) (h : length os ≡ 30) where
           xor-lane i c0 c1 c2 c3 c4 c5 (get_or os 24 0) (get_or os 25 0) (get_or os 26 0) (get_or os 27 0) (get_or os 28 0) (get_or os 29 0)
           ∙ ap₂ bit_xor
           (ap (lane_of i) e ∙ lane-checks (take 24 os) i l ∙ sym (check-whole (take 24 os) first-24 i (drop 24 os))
-          ∙ ap (λ (w : List ℕ). checkPlaces (lane_of i w)) whole)
+          ∙ ap (λ (w : List ℕ). check_places (lane_of i w)) whole)
           (ap (lane_of i) (sym (last-six os h)) ∙ sym (lane-last (take 24 os) first-24 i (drop 24 os))
           ∙ ap (λ (w : List ℕ). lane_of i w / 2 ^ 24) whole)
 
-  pub lane-lacks : (i : ℕ) → i < 8 → lane_of i (lackOctets os) ≡ syndrome (lane_of i os)
-  unfolding lackOctets
+  pub lane-lacks : (i : ℕ) → i < 8 → lane_of i (lack_octets os) ≡ syndrome (lane_of i os)
+  unfolding lack_octets
   lane-lacks i l = lane-map syndrome os 6 i l (syndrome-lt (lane_of i os) (lane-lt i))
 
   -- all six octets 0: no lane lacks anything
-  pub clean-lacks : (s0 s1 s2 s3 s4 s5 : ℕ) → (s0 ∷ s1 ∷ s2 ∷ s3 ∷ s4 ∷ s5 ∷ []) ≡ lackOctets os → s0 + s1 + s2 + s3 + s4 + s5 ≡ 0
+  pub clean-lacks : (s0 s1 s2 s3 s4 s5 : ℕ) → (s0 ∷ s1 ∷ s2 ∷ s3 ∷ s4 ∷ s5 ∷ []) ≡ lack_octets os → s0 + s1 + s2 + s3 + s4 + s5 ≡ 0
       → (i : ℕ) → i < 8 → syndrome (lane_of i os) ≡ 0
   unfolding lane_of
   clean-lacks s0 s1 s2 s3 s4 s5 e z i l =
@@ -221,21 +221,21 @@ module _ (os : List ℕ) (h : length os ≡ 30) where
 
 -- those that end in their check octets
 module _ (ds : List ℕ) (h : length ds ≡ 24) (i : ℕ) (l : i < 8) where
-  pub checks-satisfy : satisfies (lane_of i (ds ++ checkOctets ds)) ≡ true
+  pub checks-satisfy : satisfies (lane_of i (ds ++ check_octets ds)) ≡ true
   unfolding satisfies
   checks-satisfy =
-      eq-eqb (lane_of i (ds ++ checkOctets ds) / 2 ^ 24) (checkPlaces (lane_of i (ds ++ checkOctets ds)))
-      (lane-last ds h i (checkOctets ds) ∙ lane-checks ds i l ∙ sym (check-whole ds h i (checkOctets ds)))
+      eq-eqb (lane_of i (ds ++ check_octets ds) / 2 ^ 24) (check_places (lane_of i (ds ++ check_octets ds)))
+      (lane-last ds h i (check_octets ds) ∙ lane-checks ds i l ∙ sym (check-whole ds h i (check_octets ds)))
 
 -- and no others
 module _ (os : List ℕ) (h : length os ≡ 30) (b : Below (2 ^ 8) os) where
-  pub satisfied-checks : ((i : ℕ) → i < 8 → satisfies (lane_of i os) ≡ true) → drop 24 os ≡ checkOctets (take 24 os)
-  unfolding checkOctets satisfies
+  pub satisfied-checks : ((i : ℕ) → i < 8 → satisfies (lane_of i os) ≡ true) → drop 24 os ≡ check_octets (take 24 os)
+  unfolding check_octets satisfies
   satisfied-checks right =
-      by_map checkPlaces (take 24 os) 6 (drop 24 os) (length-drop 24 os ∙ omega arith) (below-drop (2 ^ 8) 24 os b)
+      by_map check_places (take 24 os) 6 (drop 24 os) (length-drop 24 os ∙ omega arith) (below-drop (2 ^ 8) 24 os b)
       (λ i l.
       sym (lane-last (take 24 os) (first-24 os h) i (drop 24 os)) ∙ ap (λ (w : List ℕ). lane_of i w / 2 ^ 24) whole
-      ∙ eqb-true (lane_of i os / 2 ^ 24) (checkPlaces (lane_of i os)) (right i l) ∙ ap (λ (w : List ℕ). checkPlaces (lane_of i w)) (sym whole)
+      ∙ eqb-true (lane_of i os / 2 ^ 24) (check_places (lane_of i os)) (right i l) ∙ ap (λ (w : List ℕ). check_places (lane_of i w)) (sym whole)
       ∙ check-whole (take 24 os) (first-24 os h) i (drop 24 os))
     where
       whole : take 24 os ++ drop 24 os ≡ os

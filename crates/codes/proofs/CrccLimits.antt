@@ -5,15 +5,15 @@ use mathlib.Core.Bool.{true}
 use mathlib.Core.List.{List, [], ◌∷◌}
 use Prim.Native.Nat.{ℕ}
 use lib.ListN.{drop}
-use Rattle.bits.specs.Row.{bits, bigBits, little, count}
+use Rattle.bits.specs.Row.{bits, big_bits, little, count}
 use Rattle.bits.specs.Pack.{chain}
 use Rattle.codes.specs.Divide.{less, fed, through}
-use Rattle.codes.specs.Crcc.{sent, stagesAfter, octetOf, crccOf, crccRight}
+use Rattle.codes.specs.Crcc.{sent, stages_after, octet_of, crcc_of, crcc_right}
 use Rattle.codes.specs.Differences.{xored, differences}
 
 -- positions 0, 3 and 35
-pub three-bits-can-pass : (a : List ℕ) × (b : List ℕ) × (crccRight a ≡ true) × (crccRight b ≡ true) × (count (differences a b) ≡ 3)
-unfolding crccRight crccOf octetOf little bigBits stagesAfter sent chain bits through fed less count differences xored
+pub three-bits-can-pass : (a : List ℕ) × (b : List ℕ) × (crcc_right a ≡ true) × (crcc_right b ≡ true) × (count (differences a b) ≡ 3)
+unfolding crcc_right crcc_of octet_of little big_bits stages_after sent chain bits through fed less count differences xored
 three-bits-can-pass = (
   1 ∷ 2 ∷ 3 ∷ 4 ∷ 5 ∷ 6 ∷ 7 ∷ 8 ∷ 9 ∷ 10 ∷ 11 ∷ 12 ∷ 13 ∷ 14 ∷ 15 ∷ 16 ∷ 17 ∷ 18 ∷ 19 ∷ 20 ∷ 21 ∷ 22 ∷ 23 ∷ 228 ∷ [],
   8 ∷ 2 ∷ 3 ∷ 4 ∷ 13 ∷ 6 ∷ 7 ∷ 8 ∷ 9 ∷ 10 ∷ 11 ∷ 12 ∷ 13 ∷ 14 ∷ 15 ∷ 16 ∷ 17 ∷ 18 ∷ 19 ∷ 20 ∷ 21 ∷ 22 ∷ 23 ∷ 228 ∷ [],
@@ -23,9 +23,9 @@ three-bits-can-pass = (
 )
 
 -- positions 0, 4, 5, 6 and 8, and none from 9 on
-pub nine-in-a-row-can-pass : (a : List ℕ) × (b : List ℕ) × (crccRight a ≡ true) × (crccRight b ≡ true)
+pub nine-in-a-row-can-pass : (a : List ℕ) × (b : List ℕ) × (crcc_right a ≡ true) × (crcc_right b ≡ true)
     × (count (differences a b) ≡ 5) × (count (drop 9 (differences a b)) ≡ 0)
-unfolding crccRight crccOf octetOf little bigBits stagesAfter sent chain bits through fed less count differences xored
+unfolding crcc_right crcc_of octet_of little big_bits stages_after sent chain bits through fed less count differences xored
 nine-in-a-row-can-pass = (
   1 ∷ 2 ∷ 3 ∷ 4 ∷ 5 ∷ 6 ∷ 7 ∷ 8 ∷ 9 ∷ 10 ∷ 11 ∷ 12 ∷ 13 ∷ 14 ∷ 15 ∷ 16 ∷ 17 ∷ 18 ∷ 19 ∷ 20 ∷ 21 ∷ 22 ∷ 23 ∷ 228 ∷ [],
   112 ∷ 3 ∷ 3 ∷ 4 ∷ 5 ∷ 6 ∷ 7 ∷ 8 ∷ 9 ∷ 10 ∷ 11 ∷ 12 ∷ 13 ∷ 14 ∷ 15 ∷ 16 ∷ 17 ∷ 18 ∷ 19 ∷ 20 ∷ 21 ∷ 22 ∷ 23 ∷ 228 ∷ [],

@@ -12,11 +12,11 @@ use lib.ListN.{length, get_or, take, set, replicate, replicate-append-replicate,
 use lib.Seq.{take-set-lt, get_or-take, get_or-set_same, get_or-set_other, length-take-le, ext_get_or}
 use lib.Bits.{bit_xor, xor_zero_r}
 use Rattle.bits.specs.Pick.{pick}
-use Rattle.bits.specs.Row.{bits, bigBits, little}
-use Rattle.bits.proofs.Rows.{length-bigBits}
+use Rattle.bits.specs.Row.{bits, big_bits, little}
+use Rattle.bits.proofs.Rows.{length-big_bits}
 use Rattle.bits.proofs.Counts.{count_zeros}
 use Rattle.bits.proofs.Xor.{xor-twice}
-use Rattle.bits.proofs.XorRows.{bigBits-xor}
+use Rattle.bits.proofs.XorRows.{big_bits-xor}
 use Rattle.bits.proofs.Beside.{little-xor, same_or_not}
 use Rattle.bits.proofs.Packing.{chain-append, chain-one}
 use Rattle.answer.specs.Answer.{Answer.accepted, Answer.refused, rewritten}
@@ -24,80 +24,80 @@ use Rattle.answer.specs.Residue.{InPlace}
 use Rattle.answer.proofs.Chains.{met}
 use Rattle.answer.proofs.Residues.{whole, in_place}
 use Rattle.codes.specs.Divide.{through}
-use Rattle.codes.specs.Crcc.{crccGenerator, sent, stagesAfter, octetOf, crccOf, crccRight, sealed}
-use Rattle.codes.specs.Edit.{editDemands, withByte, editAnswer, edited}
-use Rattle.codes.specs.Inner.{SentTable, crccAdded}
+use Rattle.codes.specs.Crcc.{crcc_generator, sent, stages_after, octet_of, crcc_of, crcc_right, sealed}
+use Rattle.codes.specs.Edit.{edit_demands, with_byte, edit_answer, edited}
+use Rattle.codes.specs.Inner.{SentTable, crcc_added}
 use Rattle.codes.proofs.Linear.{through-append, through-lt}
 use Rattle.codes.proofs.Emptied.{silent}
 use Rattle.codes.proofs.Xored.{zeros, none-there, sent-zeros, xored-set}
 use Rattle.codes.proofs.CrccTable.{sent-next}
-use Rattle.codes.proofs.CrccBlocks.{stagesFrom, right-is-whole, right-is-crcc, stages-xored}
+use Rattle.codes.proofs.CrccBlocks.{stages_from, right-is-whole, right-is-crcc, stages-xored}
 use Rattle.codes.proofs.SealLaws.{set_at, sealed-24, seal-makes-right, seal-leaves-none}
 
 -- ---- octet by octet, from any stages
 
-stages-append : (s : ℕ) (os ps : List ℕ) → stagesFrom s (os ++ ps) ≡ stagesFrom (stagesFrom s os) ps
+stages-append : (s : ℕ) (os ps : List ℕ) → stages_from s (os ++ ps) ≡ stages_from (stages_from s os) ps
 unfolding sent
 stages-append s os ps = rw (chain-append, through-append)
 
-stages-one : (s o : ℕ) → stagesFrom s (o ∷ []) ≡ through 8 crccGenerator s (bits 8 o)
+stages-one : (s o : ℕ) → stages_from s (o ∷ []) ≡ through 8 crcc_generator s (bits 8 o)
 unfolding sent
-stages-one s o = ap (through 8 crccGenerator s) (chain-one (bits 8) o)
+stages-one s o = ap (through 8 crcc_generator s) (chain-one (bits 8) o)
 
 -- ---- the difference, and zeros after it, by the table
 
 abbrev pub followed : ℕ → ℕ → ℕ
-followed d n = stagesFrom 0 (d ∷ replicate n 0)
+followed d n = stages_from 0 (d ∷ replicate n 0)
 
-pub added-first : (t : List ℕ) (d : ℕ) → SentTable t → d < 256 → get_or t d 0 ≡ octetOf (followed d 0)
-added-first t d table h = table.entry d h ∙ ap octetOf (sym (stages-one 0 d))
+pub added-first : (t : List ℕ) (d : ℕ) → SentTable t → d < 256 → get_or t d 0 ≡ octet_of (followed d 0)
+added-first t d table h = table.entry d h ∙ ap octet_of (sym (stages-one 0 d))
 
-pub added_next : (t : List ℕ) (d n : ℕ) → SentTable t → get_or t (octetOf (followed d n)) 0 ≡ octetOf (followed d (n + 1))
+pub added_next : (t : List ℕ) (d n : ℕ) → SentTable t → get_or t (octet_of (followed d n)) 0 ≡ octet_of (followed d (n + 1))
 added_next t d n table =
     let s = followed d n in
-    ap (λ (i : ℕ). get_or t i 0) (sym (xor_zero_r (octetOf s)))
-    ∙ sent-next t s 0 table (through-lt 8 crccGenerator refl 0 (sent (d ∷ replicate n 0)) (lit< tt)) (lit< tt)
-    ∙ ap octetOf (sym (stages-one s 0) ∙ sym (stages-append 0 (d ∷ replicate n 0) (0 ∷ []))
-    ∙ ap (λ (os : List ℕ). stagesFrom 0 (d ∷ os)) (replicate-append-replicate n 1 0))
+    ap (λ (i : ℕ). get_or t i 0) (sym (xor_zero_r (octet_of s)))
+    ∙ sent-next t s 0 table (through-lt 8 crcc_generator refl 0 (sent (d ∷ replicate n 0)) (lit< tt)) (lit< tt)
+    ∙ ap octet_of (sym (stages-one s 0) ∙ sym (stages-append 0 (d ∷ replicate n 0) (0 ∷ []))
+    ∙ ap (λ (os : List ℕ). stages_from 0 (d ∷ os)) (replicate-append-replicate n 1 0))
 
 -- ---- one octet of many set anew
 
-zeros-keep-empty : (n : ℕ) → stagesFrom 0 (replicate n 0) ≡ 0
+zeros-keep-empty : (n : ℕ) → stages_from 0 (replicate n 0) ≡ 0
 zeros-keep-empty n =
-    ap (through 8 crccGenerator 0) (sent-zeros n)
-    ∙ silent 8 crccGenerator refl refl (zeros (n * 8)) (count_zeros (zeros (n * 8)) (none-there (n * 8)))
+    ap (through 8 crcc_generator 0) (sent-zeros n)
+    ∙ silent 8 crcc_generator refl refl (zeros (n * 8)) (count_zeros (zeros (n * 8)) (none-there (n * 8)))
 
 pub stages-set : (os : List ℕ) (k v : ℕ) → k < length os
-    → stagesAfter (set os k v) ≡ bit_xor (stagesAfter os) (followed (bit_xor (get_or os k 0) v) (length os - suc k))
-unfolding stagesAfter
+    → stages_after (set os k v) ≡ bit_xor (stages_after os) (followed (bit_xor (get_or os k 0) v) (length os - suc k))
+unfolding stages_after
 stages-set os k v h =
     let rest = bit_xor (get_or os k 0) v ∷ replicate (length os - suc k) 0 in
-    sym (xor-twice (stagesAfter os) (stagesAfter (set os k v)))
-    ∙ ap (bit_xor (stagesAfter os)) (sym (stages-xored 255 255 os (set os k v) (lit< tt) (lit< tt) (sym (length-set os k v)))
-    ∙ ap (stagesFrom 0) (xored-set os k v h) ∙ stages-append 0 (replicate k 0) rest
-    ∙ ap (λ (s : ℕ). stagesFrom s rest) (zeros-keep-empty k))
+    sym (xor-twice (stages_after os) (stages_after (set os k v)))
+    ∙ ap (bit_xor (stages_after os)) (sym (stages-xored 255 255 os (set os k v) (lit< tt) (lit< tt) (sym (length-set os k v)))
+    ∙ ap (stages_from 0) (xored-set os k v h) ∙ stages-append 0 (replicate k 0) rest
+    ∙ ap (λ (s : ℕ). stages_from s rest) (zeros-keep-empty k))
 
-octet-xor : (s t : ℕ) → octetOf (bit_xor s t) ≡ bit_xor (octetOf s) (octetOf t)
-unfolding octetOf
+octet-xor : (s t : ℕ) → octet_of (bit_xor s t) ≡ bit_xor (octet_of s) (octet_of t)
+unfolding octet_of
 octet-xor s t =
-    ap little (bigBits-xor 8 s t) ∙ little-xor (bigBits 8 s) (bigBits 8 t) (length-bigBits 8 s ∙ sym (length-bigBits 8 t))
+    ap little (big_bits-xor 8 s t) ∙ little-xor (big_bits 8 s) (big_bits 8 t) (length-big_bits 8 s ∙ sym (length-big_bits 8 t))
 
 -- ---- a right block: the new byte 23 from the old one and the difference
 
-pub crcc-from-difference : (status : List ℕ) (byte value : ℕ) → crccRight status ≡ true → byte ≤ 22
-    → bit_xor (get_or status 23 0) (crccAdded byte (bit_xor (get_or status byte 0) value)) ≡ crccOf (set status byte value)
-unfolding crccOf crccAdded
+pub crcc-from-difference : (status : List ℕ) (byte value : ℕ) → crcc_right status ≡ true → byte ≤ 22
+    → bit_xor (get_or status 23 0) (crcc_added byte (bit_xor (get_or status byte 0) value)) ≡ crcc_of (set status byte value)
+unfolding crcc_of crcc_added
 crcc-from-difference status byte value right h =
     let first = take 23 status in
     let n : length first ≡ 23 = length-take-le 23 status (omega (arith, right-is-whole status right)) in
     let d = bit_xor (get_or status byte 0) value in
     let left : length first - suc byte ≡ 22 - byte = omega arith in
     let same : get_or first byte 0 ≡ get_or status byte 0 = get_or-take 23 status byte 0 (omega arith) in
-    ap (λ (o : ℕ). bit_xor o (octetOf (followed d (22 - byte)))) (right-is-crcc status right)
-    ∙ sym (octet-xor (stagesAfter first) (followed d (22 - byte)))
-    ∙ ap octetOf (sym (ap stagesAfter (take-set-lt 23 status byte value (omega arith))
+    ap (λ (o : ℕ). bit_xor o (octet_of (followed d (22 - byte)))) (right-is-crcc status right)
+    ∙ sym (octet-xor (stages_after first) (followed d (22 - byte)))
+    ∙ ap octet_of (sym (ap stages_after (take-set-lt 23 status byte value (omega arith))
     ∙ stages-set first byte value (omega arith)
-    ∙ ap₂ (λ (o k : ℕ). bit_xor (stagesAfter first) (followed (bit_xor o value) k)) same left))
+    ∙ ap₂ (λ (o k : ℕ). bit_xor (stages_after first) (followed (bit_xor o value) k)) same left))
 
 -- ---- what an edit gives
 
@@ -106,47 +106,47 @@ module _ (status : List ℕ) (byte value : ℕ) where
   new = set status byte value
 
   -- an accepted edit: what was asked, and the block that it gives
-  pub edit-accepted : (w : List ℕ) → editAnswer status byte value ≡ accepted w → (length status ≡ 24) × (withByte status byte value ≡ w)
-  unfolding editAnswer
+  pub edit-accepted : (w : List ℕ) → edit_answer status byte value ≡ accepted w → (length status ≡ 24) × (with_byte status byte value ≡ w)
+  unfolding edit_answer
   edit-accepted w e =
-      let m = met (withByte status byte value) (editDemands status byte value) e in
+      let m = met (with_byte status byte value) (edit_demands status byte value) e in
       (eqb-true (length status) 24 m.0.0, m.1)
 
-  length-new : length status ≡ 24 → length (withByte status byte value) ≡ length status
-  unfolding withByte
-  length-new n = length-set new 23 (crccOf new) ∙ length-set status byte value
+  length-new : length status ≡ 24 → length (with_byte status byte value) ≡ length status
+  unfolding with_byte
+  length-new n = length-set new 23 (crcc_of new) ∙ length-set status byte value
 
   -- the buffer after it is that block
-  pub edited-is : (w : List ℕ) → editAnswer status byte value ≡ accepted w → edited status byte value ≡ w
+  pub edited-is : (w : List ℕ) → edit_answer status byte value ≡ accepted w → edited status byte value ≡ w
   edited-is w e =
       let a = edit-accepted w e in
       ap (λ x. rewritten x status) e ∙ whole (λ (v : List ℕ). v) w status (ap length (sym a.1) ∙ length-new a.0)
 
   -- the edit equals sealing afresh
-  pub edit-is-sealing-afresh : (w : List ℕ) → editAnswer status byte value ≡ accepted w → edited status byte value ≡ sealed (set status byte value)
-  unfolding withByte
+  pub edit-is-sealing-afresh : (w : List ℕ) → edit_answer status byte value ≡ accepted w → edited status byte value ≡ sealed (set status byte value)
+  unfolding with_byte
   edit-is-sealing-afresh w e =
       let a = edit-accepted w e in
       edited-is w e ∙ sym a.1 ∙ sym (sealed-24 new (length-set status byte value ∙ a.0))
 
-  pub edit-makes-right : (w : List ℕ) → editAnswer status byte value ≡ accepted w → crccRight (edited status byte value) ≡ true
+  pub edit-makes-right : (w : List ℕ) → edit_answer status byte value ≡ accepted w → crcc_right (edited status byte value) ≡ true
   edit-makes-right w e =
       rw (edit-is-sealing-afresh w e) (seal-makes-right new (length-set status byte value ∙ (edit-accepted w e).0))
 
 -- ---- in place: it writes that byte and byte 23 and no other, and on a refusal none
 
 pub edit-in-place : (byte value : ℕ)
-    → InPlace 0 (λ status k. eqb k 23 || eqb k byte) (λ status k. pick (eqb k 23) (crccOf (set status byte value)) value)
-    (λ status. editAnswer status byte value) (λ status. edited status byte value)
-unfolding withByte
+    → InPlace 0 (λ status k. eqb k 23 || eqb k byte) (λ status k. pick (eqb k 23) (crcc_of (set status byte value)) value)
+    (λ status. edit_answer status byte value) (λ status. edited status byte value)
+unfolding with_byte
 edit-in-place byte value =
-    in_place (λ v. v) 0 (λ status k. eqb k 23 || eqb k byte) (λ status k. pick (eqb k 23) (crccOf (set status byte value)) value)
-    (λ status. editAnswer status byte value)
+    in_place (λ v. v) 0 (λ status k. eqb k 23 || eqb k byte) (λ status k. pick (eqb k 23) (crcc_of (set status byte value)) value)
+    (λ status. edit_answer status byte value)
     (λ a v e. let m = edit-accepted a byte value v e in ap length (sym m.1) ∙ length-new a byte value m.0)
     (λ a v e k h. ap (λ (l : List ℕ). get_or l k 0) (sym (edit-accepted a byte value v e).1)
-    ∙ set_at (set a byte value) 23 (crccOf (set a byte value)) k (rw (length-set a byte value) h)
-    ∙ ap (λ (x : ℕ). pick (eqb k 23) (crccOf (set a byte value)) x) (set_at a byte value k h)
-    ∙ either (eqb k 23) (eqb k byte) (crccOf (set a byte value)) value (get_or a k 0))
+    ∙ set_at (set a byte value) 23 (crcc_of (set a byte value)) k (rw (length-set a byte value) h)
+    ∙ ap (λ (x : ℕ). pick (eqb k 23) (crcc_of (set a byte value)) x) (set_at a byte value k h)
+    ∙ either (eqb k 23) (eqb k byte) (crcc_of (set a byte value)) value (get_or a k 0))
   where
     either : (p q : Bool) (x y z : ℕ) → pick p x (pick q y z) ≡ pick (p || q) (pick p x y) z
     either true q x y z = refl
@@ -163,7 +163,7 @@ module _ (a b : List ℕ) (byte value : ℕ) where
       ∙ sym (get_or-set_same b byte value 0 (omega arith)) ∙ ap (λ (j : ℕ). get_or (set b byte value) j 0) (sym e))
       (λ f. get_or-set_other a byte i value 0 f ∙ same i h f ∙ sym (get_or-set_other b byte i value 0 f)) (same_or_not i byte)
 
-  pub edit-leaves-none : (v w : List ℕ) → editAnswer a byte value ≡ accepted v → editAnswer b byte value ≡ accepted w
+  pub edit-leaves-none : (v w : List ℕ) → edit_answer a byte value ≡ accepted v → edit_answer b byte value ≡ accepted w
       → ((i : ℕ) → i < 23 → (i ≡ byte → ⊥) → get_or a i 0 ≡ get_or b i 0) → edited a byte value ≡ edited b byte value
   edit-leaves-none v w ea eb same =
       let x = set a byte value in

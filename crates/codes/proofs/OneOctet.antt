@@ -15,7 +15,7 @@ use Rattle.bits.proofs.Rows.{length-bits}
 use Rattle.bits.proofs.Counts.{count-append, count_zeros, count_ones, ones-pow, ones_none}
 use Rattle.bits.proofs.Xor.{xor-twice, xor-eq}
 use Rattle.bits.proofs.Packing.{chain-append}
-use Rattle.codes.specs.Crcc.{sent, crccRight}
+use Rattle.codes.specs.Crcc.{sent, crcc_right}
 use Rattle.codes.specs.Differences.{differences, InOneBit}
 use Rattle.codes.proofs.Xored.{zeros, none-there, sent-zeros, xored-set}
 use Rattle.codes.proofs.CrccCatch.{one-bit-is-caught, eight-in-a-row-are-caught}
@@ -56,8 +56,8 @@ module _ (status : List ℕ) (k v : ℕ) (there : k < length status) where
       ∙ get_or-append-add (bits 8 difference) (zeros rest) m false ∙ none-there rest m
 
   -- another octet
-  pub written-octet-is-caught : crccRight status ≡ true → get_or status k 0 < 256 → v < 256 → (v ≡ get_or status k 0 → ⊥)
-      → crccRight (set status k v) ≡ false
+  pub written-octet-is-caught : crcc_right status ≡ true → get_or status k 0 < 256 → v < 256 → (v ≡ get_or status k 0 → ⊥)
+      → crcc_right (set status k v) ≡ false
   written-octet-is-caught right ho hv other =
       eight-in-a-row-are-caught status (set status k v) right record {
         some = λ z. other (sym (xor-eq (get_or status k 0) v
@@ -68,8 +68,8 @@ module _ (status : List ℕ) (k v : ℕ) (there : k < length status) where
       }
 
 -- bit j of byte k inverted
-pub inverted-bit-is-caught : (status : List ℕ) (k j : ℕ) → crccRight status ≡ true → k < length status → j < 8
-    → crccRight (set status k (bit_xor (get_or status k 0) (2 ^ j))) ≡ false
+pub inverted-bit-is-caught : (status : List ℕ) (k j : ℕ) → crcc_right status ≡ true → k < length status → j < 8
+    → crcc_right (set status k (bit_xor (get_or status k 0) (2 ^ j))) ≡ false
 inverted-bit-is-caught status k j right there h =
     let o = get_or status k 0 in
     let one : InOneBit status (set status k (bit_xor o (2 ^ j))) =

@@ -19,29 +19,29 @@ use Rattle.bits.proofs.Beside.{same_or_not}
 use Rattle.bits.proofs.Crossing.{length-crossed}
 use Rattle.codes.specs.Lane.{satisfies, apart, Near, repaired}
 use Rattle.answer.specs.Answer.{Answer, Answer.accepted, Answer.refused}
-use Rattle.answer.specs.Demand.{Demand, Demand.findsNone, Met, Stops}
+use Rattle.answer.specs.Demand.{Demand, Demand.finds_none, Met, Stops}
 use Rattle.answer.proofs.Chains.{met, stops, extended, beyond}
 use Rattle.codes.proofs.LaneLaws.{satisfying-differ-in-four, refuses-exactly-if-none}
-use Rattle.codes.specs.Lanes.{lane_of, lanes_of, checkOctets, failing, refuses, hopelessAt, laneIn, mendedLane, mendedOctets, lanesApart}
-use Rattle.codes.specs.Inner.{withChecks, firstFailing, mendedTo, mendDemands, mendAnswer, lanesDone, octetsAfter}
+use Rattle.codes.specs.Lanes.{lane_of, lanes_of, check_octets, failing, refuses, hopeless_at, lane_in, mended_lane, mended_octets, lanes_apart}
+use Rattle.codes.specs.Inner.{with_checks, first_failing, mended_to, mend_demands, mend_answer, lanes_done, octets_after}
 use Rattle.codes.proofs.MendLaws.{all_done}
 use Rattle.codes.proofs.CheckLaws.{map-lanes, by_map, across-below}
 
 -- ---- one lane
 
-pub lane-refused : (os : List ℕ) (i n p : ℕ) → repaired (lane_of i os) ≡ refused n p → hopelessAt os i ≡ true
-unfolding hopelessAt
+pub lane-refused : (os : List ℕ) (i n p : ℕ) → repaired (lane_of i os) ≡ refused n p → hopeless_at os i ≡ true
+unfolding hopeless_at
 lane-refused os i n p e = ap refuses e
 
-pub lane-given : (os : List ℕ) (i x : ℕ) → repaired (lane_of i os) ≡ accepted x → (hopelessAt os i ≡ false) × (mendedLane (lane_of i os) ≡ x)
-unfolding hopelessAt mendedLane
-lane-given os i x e = (ap refuses e, ap (λ (a : Answer ℕ). laneIn a (lane_of i os)) e)
+pub lane-given : (os : List ℕ) (i x : ℕ) → repaired (lane_of i os) ≡ accepted x → (hopeless_at os i ≡ false) × (mended_lane (lane_of i os) ≡ x)
+unfolding hopeless_at mended_lane
+lane-given os i x e = (ap refuses e, ap (λ (a : Answer ℕ). lane_in a (lane_of i os)) e)
 
-pub given-lane : (os : List ℕ) (i : ℕ) → hopelessAt os i ≡ false → repaired (lane_of i os) ≡ accepted (mendedLane (lane_of i os))
-unfolding hopelessAt mendedLane
+pub given-lane : (os : List ℕ) (i : ℕ) → hopeless_at os i ≡ false → repaired (lane_of i os) ≡ accepted (mended_lane (lane_of i os))
+unfolding hopeless_at mended_lane
 given-lane os i = go (repaired (lane_of i os))
   where
-    go : (a : Answer ℕ) → refuses a ≡ false → a ≡ accepted (laneIn a (lane_of i os))
+    go : (a : Answer ℕ) → refuses a ≡ false → a ≡ accepted (lane_in a (lane_of i os))
     go (accepted x) e = refl
     go (refused n p) e = cc
 
@@ -67,32 +67,32 @@ two-apart lane c h right two = (refuses-exactly-if-none lane h).1 (λ x p. ⊎_e
 -- ---- 30 octets
 
 module _ (os : List ℕ) (h : length os ≡ 30) (b : Below (2 ^ 8) os) where
-  pub mended-as : (xs : List ℕ) → length xs ≡ 30 → Below (2 ^ 8) xs → ((j : ℕ) → j < 8 → lane_of j xs ≡ mendedLane (lane_of j os))
-      → mendedOctets os ≡ xs
-  unfolding mendedOctets
+  pub mended-as : (xs : List ℕ) → length xs ≡ 30 → Below (2 ^ 8) xs → ((j : ℕ) → j < 8 → lane_of j xs ≡ mended_lane (lane_of j os))
+      → mended_octets os ≡ xs
+  unfolding mended_octets
   mended-as xs e bx same =
-      sym (by_map mendedLane os 30 xs e bx same)
+      sym (by_map mended_lane os 30 xs e bx same)
 
-  pub length-all : length (mendedOctets os) ≡ 30
-  unfolding mendedOctets
-  length-all = length-crossed 0 30 (map mendedLane (lanes_of os))
+  pub length-all : length (mended_octets os) ≡ 30
+  unfolding mended_octets
+  length-all = length-crossed 0 30 (map mended_lane (lanes_of os))
 
-  pub all-below : Below (2 ^ 8) (mendedOctets os)
-  unfolding mendedOctets
-  all-below = across-below (map mendedLane (lanes_of os)) (map-lanes mendedLane os) 30
+  pub all-below : Below (2 ^ 8) (mended_octets os)
+  unfolding mended_octets
+  all-below = across-below (map mended_lane (lanes_of os)) (map-lanes mended_lane os) 30
 
 -- ---- what the code answers of 30 octets, by the demands of a carrier
 
 -- checks after 24 octets of data
-pub checked : (ds es : List ℕ) → length ds ≡ 24 → length es ≡ 6 → withChecks (ds ++ es) ≡ ds ++ checkOctets ds
-unfolding withChecks
+pub checked : (ds es : List ℕ) → length ds ≡ 24 → length es ≡ 6 → with_checks (ds ++ es) ≡ ds ++ check_octets ds
+unfolding with_checks
 checked ds es h k =
     let n : length (ds ++ es) ≡ 30 = simp length-append (omega arith) in
     rw (eq-eqb (length (ds ++ es)) 30 n, take_at ds es 24 h)
 
 -- the first lane that fails
-pub first-failing-place : (os : List ℕ) → length os ≡ 30 → firstFailing os ≡ first (failing os) 0 8 (λ i. i) 8
-unfolding firstFailing
+pub first-failing-place : (os : List ℕ) → length os ≡ 30 → first_failing os ≡ first (failing os) 0 8 (λ i. i) 8
+unfolding first_failing
 first-failing-place os h = rw (eq-eqb (length os) 30 h)
 
 pub satisfied-passes : (os : List ℕ) (i : ℕ) → satisfies (lane_of i os) ≡ true → failing os i ≡ false
@@ -109,20 +109,20 @@ passes-satisfied os i e = not-false (satisfies (lane_of i os)) e
 
 module _ (os : List ℕ) (h : length os ≡ 30) (b : Below (2 ^ 8) os) where
   -- a lane is refused: the first of which this is so
-  pub mending-stops : {number i : ℕ} {ds : List Demand} → refused number i ≡ mendAnswer os
-      → Stops (findsNone 15 (hopelessAt os) 0 8 ∷ ds) number i
-  unfolding mendAnswer
+  pub mending-stops : {number i : ℕ} {ds : List Demand} → refused number i ≡ mend_answer os
+      → Stops (finds_none 15 (hopeless_at os) 0 8 ∷ ds) number i
+  unfolding mend_answer
   mending-stops {number} {i} {ds} e =
-      extended (beyond (eq-eqb (length os) 30 h) (stops _ (mendDemands os) number i (sym e))) ds
+      extended (beyond (eq-eqb (length os) 30 h) (stops _ (mend_demands os) number i (sym e))) ds
 
-  after-mending : {n : ℕ} → accepted n ≡ mendAnswer os → octetsAfter os ≡ mendedOctets os
-  unfolding octetsAfter
-  after-mending e = rw (eq-eqb (length os) 30 h) (ap (λ (a : Answer ℕ). mendedTo (lanesDone a) os) (sym e) ∙ all_done os h b)
+  after-mending : {n : ℕ} → accepted n ≡ mend_answer os → octets_after os ≡ mended_octets os
+  unfolding octets_after
+  after-mending e = rw (eq-eqb (length os) 30 h) (ap (λ (a : Answer ℕ). mended_to (lanes_done a) os) (sym e) ∙ all_done os h b)
 
   -- all are mended: none is refused, the number of lanes that change, and the octets
-  pub mending-met : {n : ℕ} → accepted n ≡ mendAnswer os
-      → Met (findsNone 15 (hopelessAt os) 0 8) × (n ≡ lanesApart 8 (mendedOctets os) os) × (octetsAfter os ≡ mendedOctets os)
-  unfolding mendAnswer
+  pub mending-met : {n : ℕ} → accepted n ≡ mend_answer os
+      → Met (finds_none 15 (hopeless_at os) 0 8) × (n ≡ lanes_apart 8 (mended_octets os) os) × (octets_after os ≡ mended_octets os)
+  unfolding mend_answer
   mending-met {n} e =
-      let m = met (lanesApart 8 (mendedOctets os) os) (mendDemands os) (sym e) in
+      let m = met (lanes_apart 8 (mended_octets os) os) (mend_demands os) (sym e) in
       (m.0.1.0, sym m.1, after-mending e)

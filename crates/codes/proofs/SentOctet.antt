@@ -2,10 +2,10 @@
 use mathlib.Core.Path.{◌≡◌}
 use Prim.Native.Nat.{ℕ, ◌+◌, ◌*◌, ◌/◌, ◌%◌, ◌<◌}
 use lib.Bits.{bit_and}
-use Rattle.bits.specs.Row.{bigBits, little}
-use Rattle.bits.proofs.Rows.{length-bigBits, little-lt}
+use Rattle.bits.specs.Row.{big_bits, little}
+use Rattle.bits.proofs.Rows.{length-big_bits, little-lt}
 use Rattle.bits.proofs.Every.{agree}
-use Rattle.codes.specs.Crcc.{octetOf}
+use Rattle.codes.specs.Crcc.{octet_of}
 
 -- its halves change places, then the pairs in them, then the bits in those
 abbrev pub halves : ℕ → ℕ
@@ -17,10 +17,10 @@ pairs o = bit_and (halves o) 51 * 4 + bit_and (halves o / 4) 51
 abbrev turned : ℕ → ℕ
 turned o = bit_and (pairs o) 85 * 2 + bit_and (pairs o / 2) 85
 
-pub turned-octet : (o : ℕ) → o < 256 → turned o ≡ octetOf o
-unfolding octetOf little bigBits
-turned-octet = agree 256 turned octetOf tt
+pub turned-octet : (o : ℕ) → o < 256 → turned o ≡ octet_of o
+unfolding octet_of little big_bits
+turned-octet = agree 256 turned octet_of tt
 
-pub octet-lt : (s : ℕ) → octetOf s < 256
-unfolding octetOf
-octet-lt s = rw (length-bigBits 8 s) at (little-lt (bigBits 8 s))
+pub octet-lt : (s : ℕ) → octet_of s < 256
+unfolding octet_of
+octet-lt s = rw (length-big_bits 8 s) at (little-lt (big_bits 8 s))

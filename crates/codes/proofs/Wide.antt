@@ -16,12 +16,12 @@ use Rattle.bits.proofs.Rows.{bits-little, little-lt}
 use Rattle.bits.proofs.Every.{agree}
 use Rattle.bits.proofs.Beside.{odd-xor-at}
 use Rattle.codes.specs.Divide.{less, fed, through}
-use Rattle.codes.specs.Lane.{laneGenerator}
+use Rattle.codes.specs.Lane.{lane_generator}
 
 -- ---- one lane: the six stages as a row, and a bit more
 
-steppedRow : Row → Row
-steppedRow r =
+stepped_row : Row → Row
+stepped_row r =
     xor (get_or r 5 false) (get_or r 6 false)
     ∷ xor (get_or r 0 false) (xor (get_or r 5 false) (get_or r 6 false))
     ∷ xor (get_or r 1 false) (xor (get_or r 5 false) (get_or r 6 false))
@@ -31,9 +31,9 @@ steppedRow r =
     ∷ []
 
 -- at every choice of the seven bits, by a test that antt computes
-step-fed-computed : (x : ℕ) → x < 128 → fed 6 laneGenerator (x % 64) (odd (x / 64)) ≡ little (steppedRow (bits 7 x))
-unfolding fed less little steppedRow bits xor
-step-fed-computed = agree 128 (λ x. fed 6 laneGenerator (x % 64) (odd (x / 64))) (λ x. little (steppedRow (bits 7 x))) tt
+step-fed-computed : (x : ℕ) → x < 128 → fed 6 lane_generator (x % 64) (odd (x / 64)) ≡ little (stepped_row (bits 7 x))
+unfolding fed less little stepped_row bits xor
+step-fed-computed = agree 128 (λ x. fed 6 lane_generator (x % 64) (odd (x / 64))) (λ x. little (stepped_row (bits 7 x))) tt
 
 module _ (b0 b1 b2 b3 b4 b5 b : Bool) where
   abbrev six : Row
@@ -50,10 +50,10 @@ module _ (b0 b1 b2 b3 b4 b5 b : Bool) where
   unfolding little
   last_one = omega (arith, digit_lt b0, digit_lt b1, digit_lt b2, digit_lt b3, digit_lt b4, digit_lt b5)
 
-  step-fed : fed 6 laneGenerator (little six) b ≡ little (steppedRow seven)
+  step-fed : fed 6 lane_generator (little six) b ≡ little (stepped_row seven)
   step-fed =
-      ap₂ (fed 6 laneGenerator) (sym low-six) (sym (ap odd last_one ∙ odd-digit b))
-      ∙ step-fed-computed (little seven) (little-lt seven) ∙ ap (λ (r : Row). little (steppedRow r)) (bits-little seven)
+      ap₂ (fed 6 lane_generator) (sym low-six) (sym (ap odd last_one ∙ odd-digit b))
+      ∙ step-fed-computed (little seven) (little-lt seven) ∙ ap (λ (r : Row). little (stepped_row r)) (bits-little seven)
 
 -- ---- eight lanes
 
@@ -86,39 +86,39 @@ stepped-below ss d b h =
     (xor_lt 8 (get_or ss 0 0) t (b 0) l) (xor_lt 8 (get_or ss 1 0) t (b 1) l) (xor_lt 8 (get_or ss 2 0) t (b 2) l) (b 3) (xor_lt 8 (get_or ss 4 0) t (b 4) l)
 
 -- some octets more
-unfoldable pub fedAll : List ℕ → List ℕ → List ℕ
-fedAll ss [] = ss
-fedAll ss (d ∷ ds) = fedAll (stepped ss d) ds
+unfoldable pub fed_all : List ℕ → List ℕ → List ℕ
+fed_all ss [] = ss
+fed_all ss (d ∷ ds) = fed_all (stepped ss d) ds
 
-pub fed-below : (ss ds : List ℕ) → Below (2 ^ 8) ss → Below (2 ^ 8) ds → Below (2 ^ 8) (fedAll ss ds)
-unfolding fedAll
+pub fed-below : (ss ds : List ℕ) → Below (2 ^ 8) ss → Below (2 ^ 8) ds → Below (2 ^ 8) (fed_all ss ds)
+unfolding fed_all
 fed-below ss [] b h = b
 fed-below ss (d ∷ ds) b h = fed-below (stepped ss d) ds (stepped-below ss d b (h 0)) (λ i. h (suc i))
 
 module _ (i : ℕ) where
   step-lane : (s0 s1 s2 s3 s4 s5 d : ℕ)
       → little (across i (stepped (s0 ∷ s1 ∷ s2 ∷ s3 ∷ s4 ∷ s5 ∷ []) d))
-      ≡ fed 6 laneGenerator (little (across i (s0 ∷ s1 ∷ s2 ∷ s3 ∷ s4 ∷ s5 ∷ []))) (odd (d / 2 ^ i))
-  unfolding across steppedRow
+      ≡ fed 6 lane_generator (little (across i (s0 ∷ s1 ∷ s2 ∷ s3 ∷ s4 ∷ s5 ∷ []))) (odd (d / 2 ^ i))
+  unfolding across stepped_row
   step-lane s0 s1 s2 s3 s4 s5 d =
       simp (odd-xor-at i)
       (sym (step-fed (odd (s0 / 2 ^ i)) (odd (s1 / 2 ^ i)) (odd (s2 / 2 ^ i)) (odd (s3 / 2 ^ i)) (odd (s4 / 2 ^ i)) (odd (s5 / 2 ^ i)) (odd (d / 2 ^ i))))
 
   pub fed-lane : (ds : List ℕ) (s0 s1 s2 s3 s4 s5 : ℕ)
-      → little (across i (fedAll (s0 ∷ s1 ∷ s2 ∷ s3 ∷ s4 ∷ s5 ∷ []) ds))
-      ≡ through 6 laneGenerator (little (across i (s0 ∷ s1 ∷ s2 ∷ s3 ∷ s4 ∷ s5 ∷ []))) (across i ds)
-  unfolding fedAll through across
+      → little (across i (fed_all (s0 ∷ s1 ∷ s2 ∷ s3 ∷ s4 ∷ s5 ∷ []) ds))
+      ≡ through 6 lane_generator (little (across i (s0 ∷ s1 ∷ s2 ∷ s3 ∷ s4 ∷ s5 ∷ []))) (across i ds)
+  unfolding fed_all through across
   fed-lane [] s0 s1 s2 s3 s4 s5 = refl
   fed-lane (d ∷ ds) s0 s1 s2 s3 s4 s5 =
       fed-lane ds (bit_xor s5 d) (bit_xor s0 (bit_xor s5 d)) (bit_xor s1 (bit_xor s5 d)) (bit_xor s2 (bit_xor s5 d)) s3 (bit_xor s4 (bit_xor s5 d))
-      ∙ ap (λ (s : ℕ). through 6 laneGenerator s (across i ds)) (step-lane s0 s1 s2 s3 s4 s5 d)
+      ∙ ap (λ (s : ℕ). through 6 lane_generator s (across i ds)) (step-lane s0 s1 s2 s3 s4 s5 d)
 
 -- ---- a loop over the octets that has come to k
 
-pub fed-next : (ss ds : List ℕ) (k : ℕ) → k < length ds → fedAll ss (drop k ds) ≡ fedAll (stepped ss (get_or ds k 0)) (drop (k + 1) ds)
-unfolding fedAll
+pub fed-next : (ss ds : List ℕ) (k : ℕ) → k < length ds → fed_all ss (drop k ds) ≡ fed_all (stepped ss (get_or ds k 0)) (drop (k + 1) ds)
+unfolding fed_all
 fed-next ss ds k h = rw (drop-cons ds k 0 h, add-one k)
 
-pub fed-done : (ss ds : List ℕ) (k : ℕ) → length ds ≤ k → fedAll ss (drop k ds) ≡ ss
-unfolding fedAll
+pub fed-done : (ss ds : List ℕ) (k : ℕ) → length ds ≤ k → fed_all ss (drop k ds) ≡ ss
+unfolding fed_all
 fed-done ss ds k h = rw (drop_of_length-le ds {i = k} h)

@@ -8,11 +8,11 @@ use native.Mathlib.Nat.{zero-mul, suc-mul, add_comm}
 use native.Mathlib.Omega.{arith}
 use lib.ListN.{length, get_or, set, replicate, replicate-append-replicate}
 use lib.Bits.{bit_xor, xor_self, xor_shr}
-use Rattle.bits.specs.Row.{Row, odd, bits, xorRow}
+use Rattle.bits.specs.Row.{Row, odd, bits, xor_row}
 use Rattle.bits.specs.Pack.{chain}
 use Rattle.bits.proofs.Rows.{length-bits, get_d_bits}
 use Rattle.bits.proofs.XorRows.{odd-xor, bits-xor, xor-append}
-use Rattle.bits.proofs.Packing.{lowest, length-chain, getD-chain}
+use Rattle.bits.proofs.Packing.{lowest, length-chain, get_or-chain}
 use Rattle.codes.specs.Crcc.{sent}
 use Rattle.codes.specs.Differences.{xored, differences}
 
@@ -24,13 +24,13 @@ length-xored [] b n = refl
 length-xored (o ∷ a) [] n = absurd (omega arith)
 length-xored (o ∷ a) (p ∷ b) n = ap suc (length-xored a b (omega arith))
 
-pub getD-xored : (a b : List ℕ) (i : ℕ) → length a ≡ length b → get_or (xored a b) i 0 ≡ bit_xor (get_or a i 0) (get_or b i 0)
+pub get_or-xored : (a b : List ℕ) (i : ℕ) → length a ≡ length b → get_or (xored a b) i 0 ≡ bit_xor (get_or a i 0) (get_or b i 0)
 unfolding xored
-getD-xored [] [] i n = refl
-getD-xored [] (p ∷ b) i n = absurd (omega arith)
-getD-xored (o ∷ a) [] i n = absurd (omega arith)
-getD-xored (o ∷ a) (p ∷ b) zero n = refl
-getD-xored (o ∷ a) (p ∷ b) (suc i) n = getD-xored a b i (omega arith)
+get_or-xored [] [] i n = refl
+get_or-xored [] (p ∷ b) i n = absurd (omega arith)
+get_or-xored (o ∷ a) [] i n = absurd (omega arith)
+get_or-xored (o ∷ a) (p ∷ b) zero n = refl
+get_or-xored (o ∷ a) (p ∷ b) (suc i) n = get_or-xored a b i (omega arith)
 
 -- ---- in sending order
 
@@ -38,8 +38,8 @@ pub sent-length : (os : List ℕ) → length (sent os) ≡ length os * 8
 unfolding sent
 sent-length os = length-chain (lowest 8) os
 
-pub sent-xored : (a b : List ℕ) → length a ≡ length b → sent (xored a b) ≡ xorRow (sent a) (sent b)
-unfolding sent chain xored xorRow
+pub sent-xored : (a b : List ℕ) → length a ≡ length b → sent (xored a b) ≡ xor_row (sent a) (sent b)
+unfolding sent chain xored xor_row
 sent-xored [] [] n = refl
 sent-xored [] (p ∷ b) n = absurd (omega arith)
 sent-xored (o ∷ a) [] n = absurd (omega arith)
@@ -52,8 +52,8 @@ pub difference-at : (a b : List ℕ) (k j : ℕ) → length a ≡ length b → k
     → get_or (differences a b) (k * 8 + j) false ≡ xor (odd (get_or a k 0 / 2 ^ j)) (odd (get_or b k 0 / 2 ^ j))
 unfolding differences sent
 difference-at a b k j n hk hj =
-    getD-chain (lowest 8) (xored a b) k j (rw (length-xored a b n) hk) hj ∙ get_d_bits 8 (get_or (xored a b) k 0) j hj
-    ∙ rw (getD-xored a b k n, xor_shr) (odd-xor (get_or a k 0 / 2 ^ j) (get_or b k 0 / 2 ^ j))
+    get_or-chain (lowest 8) (xored a b) k j (rw (length-xored a b n) hk) hj ∙ get_d_bits 8 (get_or (xored a b) k 0) j hj
+    ∙ rw (get_or-xored a b k n, xor_shr) (odd-xor (get_or a k 0 / 2 ^ j) (get_or b k 0 / 2 ^ j))
 
 -- ---- zeros
 

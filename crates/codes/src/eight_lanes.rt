@@ -1,8 +1,8 @@
 // Eight lanes side by side: 30 octets, octet k place k of each lane, lane i in bit i. A step of the division is one on
 // all eight.
 ghost use Rattle.std.specs.Prelude.{◌≡◌, [], ◌∷◌, ◌+◌, ◌<◌, length, take, eqb};
-ghost use Rattle.codes.specs.Lanes.{lane_of, checkOctets};
-ghost use Rattle.codes.specs.Inner.{sixOctets, lackOctets};
+ghost use Rattle.codes.specs.Lanes.{lane_of, check_octets};
+ghost use Rattle.codes.specs.Inner.{six_octets, lack_octets};
 
 // Six octets: octet n holds check place 24 + n of each lane, lane i in bit i.
 #[derive(Drop)]
@@ -18,7 +18,7 @@ pub(crate) struct Six {
 // The check octets of the first 24 octets.
 pub(crate) fn checks(octets: &[u8]) -> Six
     requires { length octets.now ≡ 30 }
-    ensures { sixOctets result ≡ checkOctets (take 24 octets.now) }
+    ensures { six_octets result ≡ check_octets (take 24 octets.now) }
 {
     let mut s0: u8 = 0;
     let mut s1: u8 = 0;
@@ -50,7 +50,7 @@ pub(crate) fn checks(octets: &[u8]) -> Six
 // What the last six octets lack of being the check octets of the others.
 pub(crate) fn lacks(octets: &[u8]) -> Six
     requires { length octets.now ≡ 30 }
-    ensures { sixOctets result ≡ lackOctets octets.now }
+    ensures { six_octets result ≡ lack_octets octets.now }
 {
     let c = checks(octets);
     Six {
@@ -74,7 +74,7 @@ fn gather_three(a: u8, b: u8, c: u8, i: usize) -> u32
 // Lane i of six octets.
 pub(crate) fn gather(s: Six, i: usize) -> u32
     requires { i < 8 }
-    ensures { result ≡ lane_of i (sixOctets s) }
+    ensures { result ≡ lane_of i (six_octets s) }
 {
     gather_three(s.c0, s.c1, s.c2, i) + gather_three(s.c3, s.c4, s.c5, i) * 8
 }

@@ -12,23 +12,23 @@ use lib.ListN.{length, get_or}
 use Rattle.bits.specs.Pick.{first}
 use Rattle.bits.proofs.Tests.{both_true}
 use Rattle.anc.specs.Word.{opposed, word_of, width_by}
-use Rattle.anc.specs.Head.{didIn, groupIn}
-use Rattle.anc.specs.Enclosed.{wordsBy, enclosed}
+use Rattle.anc.specs.Head.{did_in, group_in}
+use Rattle.anc.specs.Enclosed.{words_by, enclosed}
 use Rattle.anc.proofs.SumLaws.{opposed-none}
 use Rattle.anc.proofs.Enclosing.{length-words, length-enclosed}
-use Rattle.anc.proofs.Heads.{each-group, inFull, full-word}
+use Rattle.anc.proofs.Heads.{each-group, in_full, full-word}
 use Rattle.subframe.specs.Signed.{in_range, code_of, signed_of}
 use Rattle.subframe.proofs.SignedLaws.{code_lt}
-use Rattle.hd_control.specs.Control.{controlDids, controlDc, ruleOf, delayNumber, delayWords, controlValues, controlPacket, delayAt, controlIn}
-use Rattle.hd_control.specs.Write.{controlInRanges}
-use Rattle.hd_control.specs.Inner.{ControlRanges, threeWords, wordsOfDelay}
+use Rattle.hd_control.specs.Control.{control_dids, control_dc, rule_of, delay_number, delay_words, control_values, control_packet, delay_at, control_in}
+use Rattle.hd_control.specs.Write.{control_in_ranges}
+use Rattle.hd_control.specs.Inner.{ControlRanges, three_words, words_of_delay}
 use Rattle.hd_control.specs.declared.Control.{Control}
 use Rattle.hd_control.specs.declared.Delay.{Delay}
 
 -- ---- the ranges
 
-pub ranges : (c : Control) → controlInRanges c ≡ true → ControlRanges c
-unfolding controlInRanges
+pub ranges : (c : Control) → control_in_ranges c ≡ true → ControlRanges c
+unfolding control_in_ranges
 ranges c e =
     let s9 = both_true (leb 1 c.group && leb c.group 4 && leb c.frame 511 && leb c.rate 7 && leb c.asynchronous 1 && leb c.active 15 && leb c.valid12 1 && leb c.valid34 1 && in_range 26 c.delay12) (in_range 26 c.delay34) e in
     let s8 = both_true (leb 1 c.group && leb c.group 4 && leb c.frame 511 && leb c.rate 7 && leb c.asynchronous 1 && leb c.active 15 && leb c.valid12 1 && leb c.valid34 1) (in_range 26 c.delay12) s9.0 in
@@ -52,8 +52,8 @@ ranges c e =
       second-delay = s9.1;
     }
 
-pub ranged : (c : Control) → ControlRanges c → controlInRanges c ≡ true
-unfolding controlInRanges
+pub ranged : (c : Control) → ControlRanges c → control_in_ranges c ≡ true
+unfolding control_in_ranges
 ranged c r =
     rw (
       le-leb 1 c.group r.some,
@@ -85,72 +85,72 @@ module _ (c : Control) (some : 1 ≤ c.group) (four : c.group ≤ 4) (number : c
         le-leb c.valid34 1 second-valid,
       )
 
-  pub last-delay : in_range 26 c.delay12 ≡ true → in_range 26 c.delay34 ≡ controlInRanges c
-  unfolding controlInRanges
+  pub last-delay : in_range 26 c.delay12 ≡ true → in_range 26 c.delay34 ≡ control_in_ranges c
+  unfolding control_in_ranges
   last-delay e = rw (numbers, e)
 
-  pub first-fails : in_range 26 c.delay12 ≡ false → false ≡ controlInRanges c
-  unfolding controlInRanges
+  pub first-fails : in_range 26 c.delay12 ≡ false → false ≡ control_in_ranges c
+  unfolding control_in_ranges
   first-fails e = rw (numbers, e)
 
 -- ---- DID, DBN and DC
 
-did-octet : (group : ℕ) → 1 ≤ group → group ≤ 4 → 0xE4 - group ≡ didIn controlDids group % 2 ^ 8
-did-octet = each-group (λ g. 0xE4 - g) (λ g. didIn controlDids g % 2 ^ 8) tt
+did-octet : (group : ℕ) → 1 ≤ group → group ≤ 4 → 0xE4 - group ≡ did_in control_dids group % 2 ^ 8
+did-octet = each-group (λ g. 0xE4 - g) (λ g. did_in control_dids g % 2 ^ 8) tt
 
-pub did-group : (group : ℕ) → 1 ≤ group → group ≤ 4 → groupIn controlDids (didIn controlDids group) ≡ group
+pub did-group : (group : ℕ) → 1 ≤ group → group ≤ 4 → group_in control_dids (did_in control_dids group) ≡ group
 unfolding first
-did-group = each-group (λ g. groupIn controlDids (didIn controlDids g)) (λ g. g) tt
+did-group = each-group (λ g. group_in control_dids (did_in control_dids g)) (λ g. g) tt
 
-did-full : (group : ℕ) → 1 ≤ group → group ≤ 4 → inFull (didIn controlDids group) ≡ didIn controlDids group
+did-full : (group : ℕ) → 1 ≤ group → group ≤ 4 → in_full (did_in control_dids group) ≡ did_in control_dids group
 unfolding ones
-did-full = each-group (λ g. inFull (didIn controlDids g)) (didIn controlDids) tt
+did-full = each-group (λ g. in_full (did_in control_dids g)) (did_in control_dids) tt
 
-pub did-word : (group : ℕ) → 1 ≤ group → group ≤ 4 → word_of (didIn controlDids group % 2 ^ 8) ≡ didIn controlDids group
-did-word group h l = full-word (didIn controlDids group) (did-full group h l)
+pub did-word : (group : ℕ) → 1 ≤ group → group ≤ 4 → word_of (did_in control_dids group % 2 ^ 8) ≡ did_in control_dids group
+did-word group h l = full-word (did_in control_dids group) (did-full group h l)
 
 pub dbn-word : word_of 0x00 ≡ 0x200
 unfolding ones
 dbn-word = full-word 0x200 refl
 
-pub dc-word : word_of (controlDc % 2 ^ 8) ≡ controlDc
+pub dc-word : word_of (control_dc % 2 ^ 8) ≡ control_dc
 unfolding ones
-dc-word = full-word controlDc refl
+dc-word = full-word control_dc refl
 
 -- ---- the words as they are laid
 
 module _ (c : Control) (r : ControlRanges c) (a b : Delay) (did frame rate active : ℕ) where
   pub words-laid : did ≡ word_of (0xE4 - c.group) → frame ≡ opposed (c.frame % 2 ^ 9) → rate ≡ opposed ((c.asynchronous + c.rate * 2) % 2 ^ 9)
-      → active ≡ word_of c.active → threeWords a ≡ wordsOfDelay (delayNumber c.valid12 c.delay12)
-      → threeWords b ≡ wordsOfDelay (delayNumber c.valid34 c.delay34)
-      → did ∷ 0x200 ∷ 0x10B ∷ frame ∷ rate ∷ active ∷ (threeWords a ++ threeWords b ++ (0x200 ∷ 0x200 ∷ [])) ≡ wordsBy ruleOf 3 (controlValues c)
-  unfolding controlValues
+      → active ≡ word_of c.active → three_words a ≡ words_of_delay (delay_number c.valid12 c.delay12)
+      → three_words b ≡ words_of_delay (delay_number c.valid34 c.delay34)
+      → did ∷ 0x200 ∷ 0x10B ∷ frame ∷ rate ∷ active ∷ (three_words a ++ three_words b ++ (0x200 ∷ 0x200 ∷ [])) ≡ words_by rule_of 3 (control_values c)
+  unfolding control_values
   words-laid d f s v p q =
       let e : c.frame % 2 ^ 9 ≡ c.frame = omega (arith, r.number) in
       let g : (c.asynchronous + c.rate * 2) % 2 ^ 9 ≡ c.asynchronous + c.rate * 2 = omega (arith, r.code, r.use-flag) in
       ap₂ (λ (x y : List ℕ). did ∷ 0x200 ∷ 0x10B ∷ frame ∷ rate ∷ active ∷ (x ++ y ++ (0x200 ∷ 0x200 ∷ []))) p q
       ∙ rw (d ∙ ap word_of (did-octet c.group r.some r.four), f ∙ ap opposed e, s ∙ ap opposed g, v, dbn-word, dc-word, opposed-none)
 
-pub packet-of : (c : Control) → enclosed (wordsBy ruleOf 3 (controlValues c)) ≡ controlPacket c
-unfolding controlPacket
+pub packet-of : (c : Control) → enclosed (words_by rule_of 3 (control_values c)) ≡ control_packet c
+unfolding control_packet
 packet-of c = refl
 
 -- ---- the values fit their words
 
-pub fourteen : (c : Control) → length (controlValues c) ≡ 14
-unfolding controlValues
+pub fourteen : (c : Control) → length (control_values c) ≡ 14
+unfolding control_values
 fourteen c = refl
 
-pub packet-size : (c : Control) → length (controlPacket c) ≡ 18
+pub packet-size : (c : Control) → length (control_packet c) ≡ 18
 packet-size c =
     ap length (sym (packet-of c))
-    ∙ length-enclosed (wordsBy ruleOf 3 (controlValues c)) 14 (length-words ruleOf 3 (controlValues c) ∙ fourteen c)
+    ∙ length-enclosed (words_by rule_of 3 (control_values c)) 14 (length-words rule_of 3 (control_values c) ∙ fourteen c)
 
-pub delay-number-lt : (valid : ℕ) (delay : ℤ) → valid ≤ 1 → in_range 26 delay ≡ true → delayNumber valid delay < 2 ^ 27
+pub delay-number-lt : (valid : ℕ) (delay : ℤ) → valid ≤ 1 → in_range 26 delay ≡ true → delay_number valid delay < 2 ^ 27
 delay-number-lt valid delay h l = omega (arith, code_lt 26 (omega arith) delay l)
 
-pub values-fit : (c : Control) → ControlRanges c → (i : ℕ) → i < 14 → get_or (controlValues c) i 0 < 2 ^ width_by (ruleOf (3 + i))
-unfolding controlValues
+pub values-fit : (c : Control) → ControlRanges c → (i : ℕ) → i < 14 → get_or (control_values c) i 0 < 2 ^ width_by (rule_of (3 + i))
+unfolding control_values
 values-fit c r zero l = omega arith
 values-fit c r (suc zero) l = omega arith
 values-fit c r (suc (suc zero)) l = omega arith
@@ -169,12 +169,12 @@ values-fit c r (suc (suc (suc (suc (suc (suc (suc (suc (suc (suc (suc (suc (suc 
 
 -- ---- what is read
 
-pub delay-lt : (words : List ℕ) (k : ℕ) → delayAt words k < 2 ^ 27
-unfolding delayAt
+pub delay-lt : (words : List ℕ) (k : ℕ) → delay_at words k < 2 ^ 27
+unfolding delay_at
 delay-lt words k = omega arith
 
-pub made : (words : List ℕ) (group first second : ℕ) (d e : ℤ) → group ≡ (controlIn words).group → first ≡ delayAt words 9
-    → second ≡ delayAt words 12 → d ≡ signed_of 26 (first / 2) → e ≡ signed_of 26 (second / 2)
+pub made : (words : List ℕ) (group first second : ℕ) (d e : ℤ) → group ≡ (control_in words).group → first ≡ delay_at words 9
+    → second ≡ delay_at words 12 → d ≡ signed_of 26 (first / 2) → e ≡ signed_of 26 (second / 2)
     → record {
       group = group;
       frame = get_or words 6 0 % 2 ^ 9;
@@ -185,10 +185,10 @@ pub made : (words : List ℕ) (group first second : ℕ) (d e : ℤ) → group �
       delay12 = d;
       valid34 = second % 2;
       delay34 = e;
-    } ≡ controlIn words
-unfolding controlIn
+    } ≡ control_in words
+unfolding control_in
 made words group first second d e p q r s t = rw (s, t, q, r, p)
 
-pub group-in : (words : List ℕ) → (controlIn words).group ≡ groupIn controlDids (get_or words 3 0)
-unfolding controlIn
+pub group-in : (words : List ℕ) → (control_in words).group ≡ group_in control_dids (get_or words 3 0)
+unfolding control_in
 group-in words = refl

@@ -8,20 +8,20 @@ use borrow.Author.Tests.{eq-eqb, eqb-true}
 use lib.ListN.{length, get_or, take, drop}
 use lib.Seq.{ext_get_or}
 use Rattle.answer.specs.Answer.{Answer, Answer.accepted, verdict, rewritten}
-use Rattle.answer.specs.Demand.{Demand.asks, Demand.findsNone, AllMet, ◌&◌}
+use Rattle.answer.specs.Demand.{Demand.asks, Demand.finds_none, AllMet, ◌&◌}
 use Rattle.answer.proofs.Chains.{passing, parts-met}
 use Rattle.answer.proofs.Chains.{met as met_by}
 use Rattle.answer.proofs.Residues.{whole}
-use Rattle.anc.specs.Word.{width_by, wideAt, wrongAt}
-use Rattle.anc.specs.Head.{didIn, groupIn, headDemands}
-use Rattle.anc.specs.Enclosed.{wordsBy, valuesBy, enclosed, sumStands, enclosedDemands}
+use Rattle.anc.specs.Word.{width_by, wide_at, wrong_at}
+use Rattle.anc.specs.Head.{did_in, group_in, head_demands}
+use Rattle.anc.specs.Enclosed.{words_by, values_by, enclosed, sum_stands, enclosed_demands}
 use Rattle.anc.proofs.Heads.{Named, names}
 use Rattle.anc.proofs.Enclosing.{packet-back, run-values, run_value}
 use Rattle.subframe.specs.Signed.{code_of, signed_of}
 use Rattle.subframe.proofs.SignedLaws.{signed-in, code-signed}
-use Rattle.hd_control.specs.Control.{controlDids, controlDc, controlHead, ruleOf, delayNumber, controlValues, controlPacket, delayAt, controlIn}
-use Rattle.hd_control.specs.Write.{writeDemands, writeAnswer, controlWritten}
-use Rattle.hd_control.specs.Read.{stateDemands, readDemands, readAnswer}
+use Rattle.hd_control.specs.Control.{control_dids, control_dc, control_head, rule_of, delay_number, control_values, control_packet, delay_at, control_in}
+use Rattle.hd_control.specs.Write.{write_demands, write_answer, control_written}
+use Rattle.hd_control.specs.Read.{state_demands, read_demands, read_answer}
 use Rattle.hd_control.specs.Inner.{ControlRanges}
 use Rattle.hd_control.specs.declared.Control.{Control}
 use Rattle.hd_control.proofs.ControlLaws.{ranged, fourteen, packet-of, delay-lt}
@@ -43,57 +43,57 @@ rate-back w e = low_bits w ∙ none_above (w / 2 ^ 4 % 2 ^ 4) (w % 2 ^ 4) e ∙ 
 -- ---- the 27 bits of three words, written again
 
 module _ (words : List ℕ) (k : ℕ) where
-  number-back : delayNumber (delayAt words k % 2) (signed_of 26 (delayAt words k / 2)) ≡ delayAt words k
+  number-back : delay_number (delay_at words k % 2) (signed_of 26 (delay_at words k / 2)) ≡ delay_at words k
   number-back =
-      let h : delayAt words k / 2 < 2 ^ 26 = omega (arith, delay-lt words k) in
-      ap (λ (n : ℕ). delayAt words k % 2 + n * 2) (code-signed 26 (omega arith) (delayAt words k / 2) h) ∙ omega arith
+      let h : delay_at words k / 2 < 2 ^ 26 = omega (arith, delay-lt words k) in
+      ap (λ (n : ℕ). delay_at words k % 2 + n * 2) (code-signed 26 (omega arith) (delay_at words k / 2) h) ∙ omega arith
 
-  low : delayAt words k % 2 ^ 9 ≡ get_or words k 0 % 2 ^ 9
-  unfolding delayAt
+  low : delay_at words k % 2 ^ 9 ≡ get_or words k 0 % 2 ^ 9
+  unfolding delay_at
   low = omega arith
 
-  middle : delayAt words k / 2 ^ 9 % 2 ^ 9 ≡ get_or words (k + 1) 0 % 2 ^ 9
-  unfolding delayAt
+  middle : delay_at words k / 2 ^ 9 % 2 ^ 9 ≡ get_or words (k + 1) 0 % 2 ^ 9
+  unfolding delay_at
   middle = omega arith
 
-  high : delayAt words k / 2 ^ 18 % 2 ^ 9 ≡ get_or words (k + 2) 0 % 2 ^ 9
-  unfolding delayAt
+  high : delay_at words k / 2 ^ 18 % 2 ^ 9 ≡ get_or words (k + 2) 0 % 2 ^ 9
+  unfolding delay_at
   high = omega arith
 
-  first_word : delayNumber (delayAt words k % 2) (signed_of 26 (delayAt words k / 2)) % 2 ^ 9 ≡ get_or words k 0 % 2 ^ 9
+  first_word : delay_number (delay_at words k % 2) (signed_of 26 (delay_at words k / 2)) % 2 ^ 9 ≡ get_or words k 0 % 2 ^ 9
   first_word = ap (λ (n : ℕ). n % 2 ^ 9) number-back ∙ low
 
-  second_word : delayNumber (delayAt words k % 2) (signed_of 26 (delayAt words k / 2)) / 2 ^ 9 % 2 ^ 9 ≡ get_or words (k + 1) 0 % 2 ^ 9
+  second_word : delay_number (delay_at words k % 2) (signed_of 26 (delay_at words k / 2)) / 2 ^ 9 % 2 ^ 9 ≡ get_or words (k + 1) 0 % 2 ^ 9
   second_word = ap (λ (n : ℕ). n / 2 ^ 9 % 2 ^ 9) number-back ∙ middle
 
-  third-word : delayNumber (delayAt words k % 2) (signed_of 26 (delayAt words k / 2)) / 2 ^ 18 % 2 ^ 9 ≡ get_or words (k + 2) 0 % 2 ^ 9
+  third-word : delay_number (delay_at words k % 2) (signed_of 26 (delay_at words k / 2)) / 2 ^ 18 % 2 ^ 9 ≡ get_or words (k + 2) 0 % 2 ^ 9
   third-word = ap (λ (n : ℕ). n / 2 ^ 18 % 2 ^ 9) number-back ∙ high
 
 -- ---- words that are accepted
 
-module _ (words : List ℕ) (met : AllMet (readDemands words)) where
+module _ (words : List ℕ) (met : AllMet (read_demands words)) where
   abbrev c : Control
-  c = controlIn words
+  c = control_in words
 
   long : length words ≡ 18
   long = eqb-true (length words) 18 met.0
 
-  halves : AllMet (enclosedDemands ruleOf 14 (controlHead words) words) × AllMet (stateDemands words)
-  halves = parts-met (enclosedDemands ruleOf 14 (controlHead words) words) (stateDemands words) met.1
+  halves : AllMet (enclosed_demands rule_of 14 (control_head words) words) × AllMet (state_demands words)
+  halves = parts-met (enclosed_demands rule_of 14 (control_head words) words) (state_demands words) met.1
 
-  of_words : AllMet (headDemands (controlHead words) words)
-      × AllMet (findsNone 14 (wrongAt ruleOf words) 3 14 ∷ asks 16 17 (sumStands 14 words) ∷ [])
+  of_words : AllMet (head_demands (control_head words) words)
+      × AllMet (finds_none 14 (wrong_at rule_of words) 3 14 ∷ asks 16 17 (sum_stands 14 words) ∷ [])
   of_words =
-      parts-met (headDemands (controlHead words) words) (findsNone 14 (wrongAt ruleOf words) 3 14 ∷ asks 16 17 (sumStands 14 words) ∷ []) halves.0.1
+      parts-met (head_demands (control_head words) words) (finds_none 14 (wrong_at rule_of words) 3 14 ∷ asks 16 17 (sum_stands 14 words) ∷ []) halves.0.1
 
-  ten : (k : ℕ) → k < 18 → wideAt words k ≡ false
+  ten : (k : ℕ) → k < 18 → wide_at words k ≡ false
   ten k l = halves.0.0 k (omega arith) (omega (arith, long))
 
-  group-read : Named controlDids (get_or words 3 0) (groupIn controlDids (get_or words 3 0))
-  group-read = names controlDids (get_or words 3 0) (omega arith) of_words.0.1.1.1.0
+  group-read : Named control_dids (get_or words 3 0) (group_in control_dids (get_or words 3 0))
+  group-read = names control_dids (get_or words 3 0) (omega arith) of_words.0.1.1.1.0
 
   within : ControlRanges c
-  unfolding controlIn
+  unfolding control_in
   within = record {
     some = group-read.some;
     four = group-read.few;
@@ -103,16 +103,16 @@ module _ (words : List ℕ) (met : AllMet (readDemands words)) where
     channels = omega arith;
     first-valid = omega arith;
     second-valid = omega arith;
-    first-delay = signed-in 26 (omega arith) (delayAt words 9 / 2) (omega (arith, delay-lt words 9));
-    second-delay = signed-in 26 (omega arith) (delayAt words 12 / 2) (omega (arith, delay-lt words 12));
+    first-delay = signed-in 26 (omega arith) (delay_at words 9 / 2) (omega (arith, delay-lt words 9));
+    second-delay = signed-in 26 (omega arith) (delay_at words 12 / 2) (omega (arith, delay-lt words 12));
   }
 
   -- the value of each word
-  at : (i : ℕ) → i < 14 → get_or (controlValues c) i 0 ≡ get_or words (3 + i) 0 % 2 ^ width_by (ruleOf (3 + i))
-  unfolding controlValues controlIn
+  at : (i : ℕ) → i < 14 → get_or (control_values c) i 0 ≡ get_or words (3 + i) 0 % 2 ^ width_by (rule_of (3 + i))
+  unfolding control_values control_in
   at zero l = ap (λ (w : ℕ). w % 2 ^ 8) (sym group-read.word)
   at (suc zero) l = omega (arith, eqb-true (get_or words 4 0) 0x200 halves.1.0)
-  at (suc (suc zero)) l = omega (arith, eqb-true (get_or words 5 0) controlDc of_words.0.1.1.1.1.0)
+  at (suc (suc zero)) l = omega (arith, eqb-true (get_or words 5 0) control_dc of_words.0.1.1.1.1.0)
   at (suc (suc (suc zero))) l = refl
   at (suc (suc (suc (suc zero)))) l = rate-back (get_or words 7 0) (eqb-true (get_or words 7 0 / 2 ^ 4 % 2 ^ 4) 0 halves.1.1.1.0)
   at (suc (suc (suc (suc (suc zero))))) l = omega (arith, eqb-true (get_or words 8 0 / 2 ^ 4 % 2 ^ 4) 0 halves.1.1.1.1.1.0)
@@ -129,31 +129,31 @@ module _ (words : List ℕ) (met : AllMet (readDemands words)) where
   room : 3 + 14 ≤ length words
   room = omega (arith, long)
 
-  values : controlValues c ≡ valuesBy ruleOf 3 (take 14 (drop 3 words))
+  values : control_values c ≡ values_by rule_of 3 (take 14 (drop 3 words))
   values =
-      ext_get_or 0 (controlValues c) (valuesBy ruleOf 3 (take 14 (drop 3 words))) (fourteen c ∙ sym (run-values ruleOf 14 words room))
-      (λ i l. let l' : i < 14 = omega (arith, fourteen c) in at i l' ∙ sym (run_value ruleOf 14 words room i l'))
+      ext_get_or 0 (control_values c) (values_by rule_of 3 (take 14 (drop 3 words))) (fourteen c ∙ sym (run-values rule_of 14 words room))
+      (λ i l. let l' : i < 14 = omega (arith, fourteen c) in at i l' ∙ sym (run_value rule_of 14 words room i l'))
 
-  same-packet : controlPacket c ≡ words
+  same-packet : control_packet c ≡ words
   same-packet =
-      sym (packet-of c) ∙ ap (λ (vs : List ℕ). enclosed (wordsBy ruleOf 3 vs)) values
-      ∙ packet-back ruleOf 14 words long ten (eqb-true (get_or words 0 0) 0 of_words.0.0) (eqb-true (get_or words 1 0) 0x3FF of_words.0.1.0)
+      sym (packet-of c) ∙ ap (λ (vs : List ℕ). enclosed (words_by rule_of 3 vs)) values
+      ∙ packet-back rule_of 14 words long ten (eqb-true (get_or words 0 0) 0 of_words.0.0) (eqb-true (get_or words 1 0) 0x3FF of_words.0.1.0)
       (eqb-true (get_or words 2 0) 0x3FF of_words.0.1.1.0) of_words.1.0 of_words.1.1.0
 
-  writes-back : writeAnswer c 18 ≡ accepted words
-  unfolding writeAnswer controlIn
+  writes-back : write_answer c 18 ≡ accepted words
+  unfolding write_answer control_in
   writes-back =
-      passing (accepted (controlPacket c)) (writeDemands c 18) (refl & ranged c within & halves.1.1.0 & halves.1.1.1.1.0 & tt)
+      passing (accepted (control_packet c)) (write_demands c 18) (refl & ranged c within & halves.1.1.0 & halves.1.1.1.1.0 & tt)
       ∙ ap accepted same-packet
 
 -- the writer, given the fields of an accepted packet and 18 lent words, accepts, and leaves the same 18 words
-pub control-written-read : (words : List ℕ) (c : Control) → readAnswer words ≡ accepted c → (old : List ℕ) → length old ≡ 18
-    → (verdict (writeAnswer c (length old)) ≡ accepted tt) × (controlWritten c old ≡ words)
-unfolding readAnswer
+pub control-written-read : (words : List ℕ) (c : Control) → read_answer words ≡ accepted c → (old : List ℕ) → length old ≡ 18
+    → (verdict (write_answer c (length old)) ≡ accepted tt) × (control_written c old ≡ words)
+unfolding read_answer
 control-written-read words c e old h =
-    let m = met_by (controlIn words) (readDemands words) e in
-    let w : writeAnswer c (length old) ≡ accepted words =
-    ap (writeAnswer c) h ∙ subst (λ (f : Control). writeAnswer f 18 ≡ accepted words) m.1 (writes-back words m.0) in (
+    let m = met_by (control_in words) (read_demands words) e in
+    let w : write_answer c (length old) ≡ accepted words =
+    ap (write_answer c) h ∙ subst (λ (f : Control). write_answer f 18 ≡ accepted words) m.1 (writes-back words m.0) in (
       ap verdict w,
       ap (λ (a : Answer (List ℕ)). rewritten a old) w ∙ whole (λ v. v) words old (eqb-true (length words) 18 m.0.0 ∙ sym h),
     )

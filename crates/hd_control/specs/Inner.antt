@@ -2,12 +2,12 @@
 use Rattle.std.specs.Prelude.{ℕ, ◌+◌, ◌≤◌, ◌≡◌, true, List, [], ◌∷◌, map}
 use Rattle.bits.specs.Pick.{first}
 use Rattle.answer.specs.Answer.{Answer, Answer.accepted}
-use Rattle.answer.specs.Demand.{Demand.asks, Demand.findsNone, provided}
-use Rattle.anc.specs.Word.{opposed, wrongAt}
-use Rattle.anc.specs.Enclosed.{sumStands}
+use Rattle.answer.specs.Demand.{Demand.asks, Demand.finds_none, provided}
+use Rattle.anc.specs.Word.{opposed, wrong_at}
+use Rattle.anc.specs.Enclosed.{sum_stands}
 use Rattle.subframe.specs.Signed.{in_range}
-use Rattle.hd_control.specs.Control.{ruleOf, delayWords, controlIn}
-use Rattle.hd_control.specs.Read.{stateDemands}
+use Rattle.hd_control.specs.Control.{rule_of, delay_words, control_in}
+use Rattle.hd_control.specs.Read.{state_demands}
 use Rattle.hd_control.specs.declared.Control.{Control}
 use Rattle.hd_control.specs.declared.Delay.{Delay}
 
@@ -25,17 +25,17 @@ pub record ControlRanges (c : Control) : Type 0 where
   pub second-delay : in_range 26 c.delay34 ≡ true
 
 -- the words of a delay as a list; each has nine bits of value
-abbrev pub threeWords : Delay → List ℕ
-threeWords r = r.first ∷ r.second ∷ r.third ∷ []
+abbrev pub three_words : Delay → List ℕ
+three_words r = r.first ∷ r.second ∷ r.third ∷ []
 
-abbrev pub wordsOfDelay : ℕ → List ℕ
-wordsOfDelay d = map opposed (delayWords d)
+abbrev pub words_of_delay : ℕ → List ℕ
+words_of_delay d = map opposed (delay_words d)
 
 -- the first of words 3 to 16 whose b8 or b9 is wrong, counted from word 3; or 14
-unfoldable pub firstWrongByRule : List ℕ → ℕ
-firstWrongByRule ws = first (λ i. wrongAt ruleOf ws (3 + i)) 0 14 (λ i. i) 14
+unfoldable pub first_wrong_by_rule : List ℕ → ℕ
+first_wrong_by_rule ws = first (λ i. wrong_at rule_of ws (3 + i)) 0 14 (λ i. i) 14
 
 -- what is read of 18 words of ten bits with a right head
-unfoldable pub headedRead : List ℕ → Answer Control
-headedRead words =
-    provided (findsNone 14 (wrongAt ruleOf words) 3 14 ∷ asks 16 17 (sumStands 14 words) ∷ stateDemands words) (accepted (controlIn words))
+unfoldable pub headed_read : List ℕ → Answer Control
+headed_read words =
+    provided (finds_none 14 (wrong_at rule_of words) 3 14 ∷ asks 16 17 (sum_stands 14 words) ∷ state_demands words) (accepted (control_in words))

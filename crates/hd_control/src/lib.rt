@@ -1,14 +1,14 @@
 // The writer and the reader of HD audio control packets.
 ghost use Rattle.std.specs.Prelude.{◌≡◌, true, ◌+◌, ◌^◌, ◌≤◌, ◌<◌, length};
 ghost use Rattle.answer.specs.Answer.{verdict};
-ghost use Rattle.answer.specs.Said.{verdictSaid};
-ghost use Rattle.anc.specs.Enclosed.{wordsBy};
+ghost use Rattle.answer.specs.Said.{verdict_said};
+ghost use Rattle.anc.specs.Enclosed.{words_by};
 ghost use Rattle.anc.specs.Inner.{FirstUnmet};
 ghost use Rattle.subframe.specs.Signed.{in_range, code_of, signed_of};
-ghost use Rattle.hd_control.specs.Control.{ruleOf, misused, rateReserved, delayNumber, controlValues, delayAt, controlIn};
-ghost use Rattle.hd_control.specs.Write.{controlInRanges, writeAnswer, controlWritten};
-ghost use Rattle.hd_control.specs.Read.{stateDemands, readAnswer, controlSaid};
-ghost use Rattle.hd_control.specs.Inner.{ControlRanges, threeWords, wordsOfDelay, firstWrongByRule, headedRead};
+ghost use Rattle.hd_control.specs.Control.{rule_of, misused, rate_reserved, delay_number, control_values, delay_at, control_in};
+ghost use Rattle.hd_control.specs.Write.{control_in_ranges, write_answer, control_written};
+ghost use Rattle.hd_control.specs.Read.{state_demands, read_answer, control_said};
+ghost use Rattle.hd_control.specs.Inner.{ControlRanges, three_words, words_of_delay, first_wrong_by_rule, headed_read};
 
 use anc::B8;
 use answer::{NumberAnswer, Verdict};
@@ -83,14 +83,14 @@ fn misuses(asynchronous: u32, frame: u32) -> bool
 
 // Whether a rate code is reserved.
 fn is_reserved(rate: u32) -> bool
-    ensures { result ≡ rateReserved rate }
+    ensures { result ≡ rate_reserved rate }
 {
     3 <= rate && rate <= 6
 }
 
 // Group 1 to 4, frame to 511, rate to 7, active to 15, the flags 0 or 1, delays of 26 bits.
 fn in_ranges(c: Control) -> bool
-    ensures { result ≡ controlInRanges c }
+    ensures { result ≡ control_in_ranges c }
 {
     if c.group < 1 {
         return false;
@@ -133,7 +133,7 @@ pub struct Delay {
 // Those of e and the 26 bits of a delay, e lowest.
 fn delay_words(valid: u32, delay: i32) -> Delay
     requires { (valid ≤ 1) × (in_range 26 delay ≡ true) }
-    ensures { threeWords result ≡ wordsOfDelay (delayNumber valid delay) }
+    ensures { three_words result ≡ words_of_delay (delay_number valid delay) }
 {
     let number = valid + code(delay) * 2;
     let first = anc::nine((number % 512) as u16);
@@ -149,7 +149,7 @@ fn delay_words(valid: u32, delay: i32) -> Delay
 // Words 3 to 16; DBN, DC and the words that are reserved are the same in every packet.
 fn lay(c: Control) -> [u16; 14]
     requires { ControlRanges c }
-    ensures { result ≡ wordsBy ruleOf 3 (controlValues c) }
+    ensures { result ≡ words_by rule_of 3 (control_values c) }
 {
     let did = anc::word((0xE4 - c.group) as u8);
     let frame = anc::nine(c.frame as u16);
@@ -165,8 +165,8 @@ fn lay(c: Control) -> [u16; 14]
 
 // Writes the packet of these fields into 18 words: refusals 1, 2, 12 at word 6, 12 at word 7.
 pub fn write_control(c: Control, words: &mut [u16]) -> Verdict
-    ensures result_value { verdictSaid result ≡ verdict (writeAnswer c (length words.old)) }
-    ensures words_after { words.new ≡ controlWritten c words.old }
+    ensures result_value { verdict_said result ≡ verdict (write_answer c (length words.old)) }
+    ensures words_after { words.new ≡ control_written c words.old }
 {
     if words.len() != 18 {
         return Verdict::Refused {
@@ -199,7 +199,7 @@ pub fn write_control(c: Control, words: &mut [u16]) -> Verdict
 
 // What b8 of a word from word 3 on is.
 fn rule(k: usize) -> B8
-    ensures { result ≡ ruleOf k }
+    ensures { result ≡ rule_of k }
 {
     if k <= 5 {
         return B8::Parity;
@@ -222,7 +222,7 @@ fn rule(k: usize) -> B8
 // The first of words 3 to 16 whose b8 or b9 is wrong, counted from word 3; or 14.
 fn first_wrong(words: &[u16]) -> usize
     requires { length words.now ≡ 18 }
-    ensures { result ≡ firstWrongByRule words.now }
+    ensures { result ≡ first_wrong_by_rule words.now }
 {
     let mut i = 0;
     while i < 14 {
@@ -239,7 +239,7 @@ fn first_wrong(words: &[u16]) -> usize
 // The first of words 4, 6, 7, 8, 15, 16 in which a bit or a code has not the state required, or 18.
 fn wrong_state(words: &[u16]) -> u32
     requires { length words.now ≡ 18 }
-    ensures { FirstUnmet (stateDemands words.now) 12 18 result }
+    ensures { FirstUnmet (state_demands words.now) 12 18 result }
 {
     if words[4] != 0x200 {
         return 4;
@@ -268,7 +268,7 @@ fn wrong_state(words: &[u16]) -> u32
 // The 27 bits of the three words from word k on.
 fn delay_at(words: &[u16], k: usize) -> u32
     requires { k + 3 ≤ length words.now }
-    ensures { result ≡ delayAt words.now k }
+    ensures { result ≡ delay_at words.now k }
 {
     (words[k] % 512) as u32
         + (words[k + 1] % 512) as u32 * 512
@@ -277,8 +277,8 @@ fn delay_at(words: &[u16], k: usize) -> u32
 
 // The fields of 18 words that name this group.
 fn take(group: u32, words: &[u16]) -> Control
-    requires { (length words.now ≡ 18) × (group ≡ (controlIn words.now).group) }
-    ensures { result ≡ controlIn words.now }
+    requires { (length words.now ≡ 18) × (group ≡ (control_in words.now).group) }
+    ensures { result ≡ control_in words.now }
 {
     let first = delay_at(words, 9);
     let second = delay_at(words, 12);
@@ -299,8 +299,8 @@ fn take(group: u32, words: &[u16]) -> Control
 
 // Reads words of ten bits each that name this group: refusals 14 for b8 and b9, 16, 12.
 fn read_headed(group: u32, words: &[u16]) -> ControlAnswer
-    requires { (length words.now ≡ 18) × (group ≡ (controlIn words.now).group) }
-    ensures { controlSaid result ≡ headedRead words.now }
+    requires { (length words.now ≡ 18) × (group ≡ (control_in words.now).group) }
+    ensures { control_said result ≡ headed_read words.now }
 {
     let wrong = first_wrong(words);
     if wrong < 14 {
@@ -327,7 +327,7 @@ fn read_headed(group: u32, words: &[u16]) -> ControlAnswer
 
 // Reads 18 words: refusals 1, 14 above 1,023, 13, 14 for b8 and b9, 16, 12.
 pub fn read_control(words: &[u16]) -> ControlAnswer
-    ensures { controlSaid result ≡ readAnswer words.now }
+    ensures { control_said result ≡ read_answer words.now }
 {
     if words.len() != 18 {
         return ControlAnswer::Refused {

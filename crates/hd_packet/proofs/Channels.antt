@@ -10,8 +10,8 @@ use lib.Dec.{eqb, lit<}
 use lib.Pow.{high, low, shl-shr}
 use lib.ListN.{length, get_or, set}
 use Rattle.bits.specs.Row.{bit, Below}
-use Rattle.subframe.specs.Body.{parityOf, evenBody}
-use Rattle.hd_packet.specs.Packet.{channelOctets, withZ, body_at, bodiesIn, oddBody}
+use Rattle.subframe.specs.Body.{parity_of, even_body}
+use Rattle.hd_packet.specs.Packet.{channel_octets, with_z, body_at, bodies_in, odd_body}
 
 -- ---- octets of a body
 
@@ -27,28 +27,28 @@ below-cons x xs h b (suc i) = b i
 below-nil : Below (2 ^ 8) []
 below-nil i = lit< tt
 
-pub channel-below : (body : ℕ) → Below (2 ^ 8) (channelOctets body)
-unfolding channelOctets
+pub channel-below : (body : ℕ) → Below (2 ^ 8) (channel_octets body)
+unfolding channel_octets
 channel-below body =
     below-cons (body / 2 ^ 4 % 2 ^ 4 * 2 ^ 4) (body / 2 ^ 8 % 2 ^ 8 ∷ body / 2 ^ 16 % 2 ^ 8 ∷ body / 2 ^ 24 % 2 ^ 8 ∷ []) (omega arith)
     (below-cons (body / 2 ^ 8 % 2 ^ 8) (body / 2 ^ 16 % 2 ^ 8 ∷ body / 2 ^ 24 % 2 ^ 8 ∷ []) (omega arith)
     (below-cons (body / 2 ^ 16 % 2 ^ 8) (body / 2 ^ 24 % 2 ^ 8 ∷ []) (omega arith) (below-cons (body / 2 ^ 24 % 2 ^ 8) [] (omega arith) below-nil)))
 
-pub marked-below : (z body : ℕ) → z ≤ 1 → Below (2 ^ 8) (withZ z (channelOctets body))
-unfolding channelOctets
+pub marked-below : (z body : ℕ) → z ≤ 1 → Below (2 ^ 8) (with_z z (channel_octets body))
+unfolding channel_octets
 marked-below z body h zero = omega arith
 marked-below z body h (suc i) = channel-below body (suc i)
 
 -- the octets as they are written
 pub channel-octets : (body z : ℕ)
     → (body / 2 ^ 4 % 2 ^ 4 * 2 ^ 4 + z * 2 ^ 3) ∷ body / 2 ^ 8 % 2 ^ 8 ∷ body / 2 ^ 16 % 2 ^ 8 ∷ body / 2 ^ 24 % 2 ^ 8 ∷ []
-    ≡ withZ z (channelOctets body)
-unfolding channelOctets
+    ≡ with_z z (channel_octets body)
+unfolding channel_octets
 channel-octets body z = refl
 
 -- a channel without Z
-pub no-z : (b : ℕ) → withZ 0 (channelOctets b) ≡ channelOctets b
-unfolding channelOctets
+pub no-z : (b : ℕ) → with_z 0 (channel_octets b) ≡ channel_octets b
+unfolding channel_octets
 no-z b = rw add-zero
 
 -- ---- the body of octets
@@ -67,16 +67,16 @@ unfolding body_at
 body_of os k = refl
 
 -- channel n, from octet 8 + 4 n on
-pub body-in : (os : List ℕ) (n : ℕ) → n < 4 → get_or (bodiesIn os) n 0 ≡ body_at os (8 + 4 * n)
-unfolding bodiesIn
+pub body-in : (os : List ℕ) (n : ℕ) → n < 4 → get_or (bodies_in os) n 0 ≡ body_at os (8 + 4 * n)
+unfolding bodies_in
 body-in os zero h = refl
 body-in os (suc zero) h = refl
 body-in os (suc (suc zero)) h = refl
 body-in os (suc (suc (suc zero))) h = refl
 body-in os (suc (suc (suc (suc n)))) h = absurd (omega arith)
 
-pub four-bodies : (os : List ℕ) → length (bodiesIn os) ≡ 4
-unfolding bodiesIn
+pub four-bodies : (os : List ℕ) → length (bodies_in os) ≡ 4
+unfolding bodies_in
 four-bodies os = refl
 
 -- four stores
@@ -89,8 +89,8 @@ four-stored (w ∷ x ∷ y ∷ z ∷ []) a b c d h = refl
 four-stored (w ∷ x ∷ y ∷ z ∷ v ∷ old) a b c d h = absurd (omega arith)
 
 pub bodies-stored : (os old : List ℕ) (a b c d : ℕ) → length old ≡ 4 → a ≡ body_at os 8 → b ≡ body_at os 12 → c ≡ body_at os 16
-    → d ≡ body_at os 20 → set (set (set (set old 0 a) 1 b) 2 c) 3 d ≡ bodiesIn os
-unfolding bodiesIn
+    → d ≡ body_at os 20 → set (set (set (set old 0 a) 1 b) 2 c) 3 d ≡ bodies_in os
+unfolding bodies_in
 bodies-stored os old a b c d h p q r s = four-stored old a b c d h ∙ rw (p, q, r, s)
 
 -- ---- the body of its own octets
@@ -147,25 +147,25 @@ module _ (q o1 o2 o3 : ℕ) (hq : q < 2 ^ 4) (h1 : o1 < 2 ^ 8) (h2 : o2 < 2 ^ 8)
       let e : body / 2 ^ 24 ≡ o3 = omega arith in
       rw e (omega arith)
 
-  channel-back : channelOctets body ≡ q * 2 ^ 4 ∷ o1 ∷ o2 ∷ o3 ∷ []
-  unfolding channelOctets
+  channel-back : channel_octets body ≡ q * 2 ^ 4 ∷ o1 ∷ o2 ∷ o3 ∷ []
+  unfolding channel_octets
   channel-back = rw (low-4, next-8, then-8, last-8)
 
 module _ (os : List ℕ) (b : Below (2 ^ 8) os) (k : ℕ) where
   -- a channel with Z, and one without
   pub marked : get_or os k 0 % 2 ^ 3 ≡ 0
-      → withZ (bit 3 (get_or os k 0)) (channelOctets (body_at os k))
+      → with_z (bit 3 (get_or os k 0)) (channel_octets (body_at os k))
       ≡ get_or os k 0 ∷ get_or os (k + 1) 0 ∷ get_or os (k + 2) 0 ∷ get_or os (k + 3) 0 ∷ []
   unfolding body_at
   marked z =
       let w : get_or os k 0 / 2 ^ 4 * 2 ^ 4 + bit 3 (get_or os k 0) * 2 ^ 3 ≡ get_or os k 0 = omega (arith, b k) in
-      ap (withZ (bit 3 (get_or os k 0)))
+      ap (with_z (bit 3 (get_or os k 0)))
       (channel-back (get_or os k 0 / 2 ^ 4) (get_or os (k + 1) 0) (get_or os (k + 2) 0) (get_or os (k + 3) 0) (omega (arith, b k)) (b (k + 1))
       (b (k + 2)) (b (k + 3)))
       ∙ ap (λ (x : ℕ). x ∷ get_or os (k + 1) 0 ∷ get_or os (k + 2) 0 ∷ get_or os (k + 3) 0 ∷ []) w
 
   pub plain : get_or os k 0 % 2 ^ 4 ≡ 0
-      → channelOctets (body_at os k) ≡ get_or os k 0 ∷ get_or os (k + 1) 0 ∷ get_or os (k + 2) 0 ∷ get_or os (k + 3) 0 ∷ []
+      → channel_octets (body_at os k) ≡ get_or os k 0 ∷ get_or os (k + 1) 0 ∷ get_or os (k + 2) 0 ∷ get_or os (k + 3) 0 ∷ []
   unfolding body_at
   plain z =
       let w : get_or os k 0 / 2 ^ 4 * 2 ^ 4 ≡ get_or os k 0 = omega (arith, b k) in
@@ -176,14 +176,14 @@ module _ (os : List ℕ) (b : Below (2 ^ 8) os) (k : ℕ) where
 -- ---- odd bodies
 
 module _ (bodies : List ℕ) (n : ℕ) where
-  pub odd-found : (parityOf (get_or bodies n 0) ≡ 0 → ⊥) → oddBody bodies n ≡ true
-  unfolding oddBody
-  odd-found e = ap not (ne_eqb (parityOf (get_or bodies n 0)) 0 e)
+  pub odd-found : (parity_of (get_or bodies n 0) ≡ 0 → ⊥) → odd_body bodies n ≡ true
+  unfolding odd_body
+  odd-found e = ap not (ne_eqb (parity_of (get_or bodies n 0)) 0 e)
 
-  pub even-passes : parityOf (get_or bodies n 0) ≡ 0 → oddBody bodies n ≡ false
-  unfolding oddBody
-  even-passes e = ap not (eq-eqb (parityOf (get_or bodies n 0)) 0 e)
+  pub even-passes : parity_of (get_or bodies n 0) ≡ 0 → odd_body bodies n ≡ false
+  unfolding odd_body
+  even-passes e = ap not (eq-eqb (parity_of (get_or bodies n 0)) 0 e)
 
-  pub passes-even : oddBody bodies n ≡ false → parityOf (get_or bodies n 0) ≡ 0
-  unfolding oddBody
-  passes-even e = eqb-true (parityOf (get_or bodies n 0)) 0 (not-false (evenBody (get_or bodies n 0)) e)
+  pub passes-even : odd_body bodies n ≡ false → parity_of (get_or bodies n 0) ≡ 0
+  unfolding odd_body
+  passes-even e = eqb-true (parity_of (get_or bodies n 0)) 0 (not-false (even_body (get_or bodies n 0)) e)

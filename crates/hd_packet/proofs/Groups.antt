@@ -4,21 +4,21 @@ use Prim.Native.Nat.{ℕ, ◌-◌, ◌%◌, ◌^◌, ◌≤◌}
 use lib.Count.{ones}
 use Rattle.bits.specs.Pick.{first}
 use Rattle.anc.specs.Word.{word_of}
-use Rattle.anc.proofs.Heads.{each-group, inFull, full-word}
-use Rattle.hd_packet.specs.Packet.{did, dc, groupOfDid}
+use Rattle.anc.proofs.Heads.{each-group, in_full, full-word}
+use Rattle.hd_packet.specs.Packet.{did, dc, group_of_did}
 
 pub did-octet : (group : ℕ) → 1 ≤ group → group ≤ 4 → 0xE8 - group ≡ did group % 2 ^ 8
 did-octet = each-group (λ g. 0xE8 - g) (λ g. did g % 2 ^ 8) tt
 
-pub did-group : (group : ℕ) → 1 ≤ group → group ≤ 4 → groupOfDid (did group) ≡ group
+pub did-group : (group : ℕ) → 1 ≤ group → group ≤ 4 → group_of_did (did group) ≡ group
 unfolding first
-did-group = each-group (λ g. groupOfDid (did g)) (λ g. g) tt
+did-group = each-group (λ g. group_of_did (did g)) (λ g. g) tt
 
 -- ---- b8 and b9 of DID and DC are by the rule
 
-did-full : (group : ℕ) → 1 ≤ group → group ≤ 4 → inFull (did group) ≡ did group
+did-full : (group : ℕ) → 1 ≤ group → group ≤ 4 → in_full (did group) ≡ did group
 unfolding ones
-did-full = each-group (λ g. inFull (did g)) did tt
+did-full = each-group (λ g. in_full (did g)) did tt
 
 pub did-word : (group : ℕ) → 1 ≤ group → group ≤ 4 → word_of (did group % 2 ^ 8) ≡ did group
 did-word group h l = full-word (did group) (did-full group h l)

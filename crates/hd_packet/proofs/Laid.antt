@@ -9,8 +9,8 @@ use lib.ListN.{length, get_or, take, drop}
 use lib.Seq.{drop-cons}
 use Rattle.bits.specs.Row.{bit, Below}
 use Rattle.answer.specs.Demand.{AllMet, ◌&◌}
-use Rattle.anc.specs.Head.{headDemands}
-use Rattle.hd_packet.specs.Packet.{did, dc, Ranges, channelOctets, withZ, dataOctets, fieldsIn, body_at, bodiesIn, spareDemands}
+use Rattle.anc.specs.Head.{head_demands}
+use Rattle.hd_packet.specs.Packet.{did, dc, Ranges, channel_octets, with_z, data_octets, fields_in, body_at, bodies_in, spare_demands}
 use Rattle.hd_packet.specs.declared.Fields.{Fields}
 use Rattle.hd_packet.proofs.Channels.{below-append, channel-below, marked-below, plain_body, marked-body, marked, plain}
 
@@ -20,36 +20,36 @@ module _ (f : Fields) (bodies : List ℕ) where
   abbrev body : ℕ → ℕ
   body n = get_or bodies n 0
 
-  pub length-data : length (dataOctets f bodies) ≡ 24
-  unfolding dataOctets channelOctets
+  pub length-data : length (data_octets f bodies) ≡ 24
+  unfolding data_octets channel_octets
   length-data = refl
 
   -- four bodies are what counts
-  pub data-of-four : dataOctets f (body 0 ∷ body 1 ∷ body 2 ∷ body 3 ∷ []) ≡ dataOctets f bodies
-  unfolding dataOctets
+  pub data-of-four : data_octets f (body 0 ∷ body 1 ∷ body 2 ∷ body 3 ∷ []) ≡ data_octets f bodies
+  unfolding data_octets
   data-of-four = refl
 
   -- the octets one by one
-  pub data-octets : (w x y z : List ℕ) → w ≡ withZ f.z1 (channelOctets (body 0)) → x ≡ channelOctets (body 1)
-      → y ≡ withZ f.z2 (channelOctets (body 2)) → z ≡ channelOctets (body 3)
+  pub data-octets : (w x y z : List ℕ) → w ≡ with_z f.z1 (channel_octets (body 0)) → x ≡ channel_octets (body 1)
+      → y ≡ with_z f.z2 (channel_octets (body 2)) → z ≡ channel_octets (body 3)
       → 0x00 ∷ 0xFF ∷ 0xFF ∷ did f.group % 2 ^ 8 ∷ f.dbn ∷ dc % 2 ^ 8 ∷ f.phase % 2 ^ 8 ∷ (f.phase / 2 ^ 8 + f.ck12 * 2 ^ 4)
-      ∷ (w ++ x ++ y ++ z) ≡ dataOctets f bodies
-  unfolding dataOctets
+      ∷ (w ++ x ++ y ++ z) ≡ data_octets f bodies
+  unfolding data_octets
   data-octets w x y z p q r s = rw (p, q, r, s)
 
   abbrev rest : List ℕ
-  rest = withZ f.z1 (channelOctets (body 0)) ++ channelOctets (body 1) ++ withZ f.z2 (channelOctets (body 2)) ++ channelOctets (body 3)
+  rest = with_z f.z1 (channel_octets (body 0)) ++ channel_octets (body 1) ++ with_z f.z2 (channel_octets (body 2)) ++ channel_octets (body 3)
 
   rest_below : f.z1 ≤ 1 → f.z2 ≤ 1 → Below (2 ^ 8) rest
   rest_below h1 h2 =
-      below-append (withZ f.z1 (channelOctets (body 0)) ++ channelOctets (body 1) ++ withZ f.z2 (channelOctets (body 2)))
-      (channelOctets (body 3))
-      (below-append (withZ f.z1 (channelOctets (body 0)) ++ channelOctets (body 1)) (withZ f.z2 (channelOctets (body 2)))
-      (below-append (withZ f.z1 (channelOctets (body 0))) (channelOctets (body 1)) (marked-below f.z1 (body 0) h1)
+      below-append (with_z f.z1 (channel_octets (body 0)) ++ channel_octets (body 1) ++ with_z f.z2 (channel_octets (body 2)))
+      (channel_octets (body 3))
+      (below-append (with_z f.z1 (channel_octets (body 0)) ++ channel_octets (body 1)) (with_z f.z2 (channel_octets (body 2)))
+      (below-append (with_z f.z1 (channel_octets (body 0))) (channel_octets (body 1)) (marked-below f.z1 (body 0) h1)
       (channel-below (body 1))) (marked-below f.z2 (body 2) h2)) (channel-below (body 3))
 
-  pub data-below : Ranges f → Below (2 ^ 8) (dataOctets f bodies)
-  unfolding dataOctets
+  pub data-below : Ranges f → Below (2 ^ 8) (data_octets f bodies)
+  unfolding data_octets
   data-below r zero = lit< tt
   data-below r (suc zero) = lit< tt
   data-below r (suc (suc zero)) = lit< tt
@@ -63,18 +63,18 @@ module _ (f : Fields) (bodies : List ℕ) where
   -- the head's, whatever follows
   module _ (cs : List ℕ) where
     abbrev xs : List ℕ
-    xs = dataOctets f bodies ++ cs
+    xs = data_octets f bodies ++ cs
 
-    pub adf-octets : AllMet (headDemands ((0, 0x00) ∷ (1, 0xFF) ∷ (2, 0xFF) ∷ []) xs)
-    unfolding dataOctets
+    pub adf-octets : AllMet (head_demands ((0, 0x00) ∷ (1, 0xFF) ∷ (2, 0xFF) ∷ []) xs)
+    unfolding data_octets
     adf-octets = refl & refl & refl & tt
 
     pub did-here : get_or xs 3 0 ≡ did f.group % 2 ^ 8
-    unfolding dataOctets
+    unfolding data_octets
     did-here = refl
 
     pub dc-here : get_or xs 5 0 ≡ dc % 2 ^ 8
-    unfolding dataOctets
+    unfolding data_octets
     dc-here = refl
 
 -- ---- read back
@@ -109,13 +109,13 @@ four-list (w ∷ x ∷ y ∷ z ∷ v ∷ l) h = absurd (omega arith)
 
 module _ (f : Fields) (bodies cs : List ℕ) (r : Ranges f) where
   abbrev ys : List ℕ
-  ys = dataOctets f bodies ++ cs
+  ys = data_octets f bodies ++ cs
 
   abbrev b : ℕ → ℕ
   b n = get_or bodies n 0
 
-  pub fields_back : fieldsIn f.group ys ≡ f
-  unfolding fieldsIn dataOctets channelOctets
+  pub fields_back : fields_in f.group ys ≡ f
+  unfolding fields_in data_octets channel_octets
   fields_back =
       rw (
         phase-back f.phase f.ck12 r.clock r.top,
@@ -124,16 +124,16 @@ module _ (f : Fields) (bodies cs : List ℕ) (r : Ranges f) where
         z-back (b 2 / 2 ^ 4 % 2 ^ 4) f.z2 r.second-pair,
       )
 
-  pub spares-clear : AllMet (spareDemands ys)
-  unfolding dataOctets channelOctets
+  pub spares-clear : AllMet (spare_demands ys)
+  unfolding data_octets channel_octets
   spares-clear =
       eq-eqb _ 0 (spare-ck f.phase f.ck12 r.clock r.top) & eq-eqb _ 0 (spare-z (b 0 / 2 ^ 4 % 2 ^ 4) f.z1 r.first-pair)
       & eq-eqb (b 1 / 2 ^ 4 % 2 ^ 4 * 2 ^ 4 / 2 ^ 0 % 2 ^ 4) 0 (omega arith)
       & eq-eqb _ 0 (spare-z (b 2 / 2 ^ 4 % 2 ^ 4) f.z2 r.second-pair)
       & eq-eqb (b 3 / 2 ^ 4 % 2 ^ 4 * 2 ^ 4 / 2 ^ 0 % 2 ^ 4) 0 (omega arith) & tt
 
-  pub bodies-back : Below (2 ^ 32) bodies → length bodies ≡ 4 → ((n : ℕ) → n < 4 → get_or bodies n 0 % 2 ^ 4 ≡ 0) → bodiesIn ys ≡ bodies
-  unfolding bodiesIn body_at dataOctets channelOctets
+  pub bodies-back : Below (2 ^ 32) bodies → length bodies ≡ 4 → ((n : ℕ) → n < 4 → get_or bodies n 0 % 2 ^ 4 ≡ 0) → bodies_in ys ≡ bodies
+  unfolding bodies_in body_at data_octets channel_octets
   bodies-back below four clear =
       ap₂ (λ (x : ℕ) (l : List ℕ). x ∷ l) (marked-body (b 0) (below 0) (clear 0 (omega arith)) f.z1 r.first-pair)
       (ap₂ (λ (x : ℕ) (l : List ℕ). x ∷ l) (plain_body (b 1) (below 1) (clear 1 (omega arith)))
@@ -150,8 +150,8 @@ pub fields-of : (group : ℕ) (os : List ℕ)
       ck12 = bit 4 (get_or os 7 0);
       z1 = bit 3 (get_or os 8 0);
       z2 = bit 3 (get_or os 16 0);
-    }) (fieldsIn group os)
-unfolding fieldsIn
+    }) (fields_in group os)
+unfolding fields_in
 fields-of group os = refl
 
 -- ---- written back
@@ -166,7 +166,7 @@ take-run zero k os h = refl
 take-run (suc n) k os h =
     rw (drop-cons os k 0 (omega arith)) (ap (λ (l : List ℕ). get_or os k 0 ∷ l) (take-run n (suc k) os (omega arith)))
 
-module _ (os : List ℕ) (long : length os ≡ 30) (small : Below (2 ^ 8) os) (clear : AllMet (spareDemands os)) where
+module _ (os : List ℕ) (long : length os ≡ 30) (small : Below (2 ^ 8) os) (clear : AllMet (spare_demands os)) where
   spare-7 : get_or os 7 0 / 2 ^ 5 ≡ 0
   spare-7 = omega (arith, eqb-true (get_or os 7 0 / 2 ^ 5 % 2 ^ 3) 0 clear.0, small 7)
 
@@ -195,8 +195,8 @@ module _ (os : List ℕ) (long : length os ≡ 30) (small : Below (2 ^ 8) os) (c
         rw h (omega (arith, small 7, spare-7))
 
     -- the fields that are read stand in their ranges
-    pub read-ranges : 1 ≤ group → group ≤ 4 → Ranges (fieldsIn group os)
-    unfolding fieldsIn
+    pub read-ranges : 1 ≤ group → group ≤ 4 → Ranges (fields_in group os)
+    unfolding fields_in
     read-ranges s l = record {
       some = s;
       four = l;
@@ -208,9 +208,9 @@ module _ (os : List ℕ) (long : length os ≡ 30) (small : Below (2 ^ 8) os) (c
     }
 
     -- and give the octets again
-    pub data-back : AllMet (headDemands ((0, 0x00) ∷ (1, 0xFF) ∷ (2, 0xFF) ∷ (3, did group % 2 ^ 8) ∷ (5, dc % 2 ^ 8) ∷ []) os)
-        → dataOctets (fieldsIn group os) (bodiesIn os) ≡ take 24 os
-    unfolding dataOctets fieldsIn bodiesIn
+    pub data-back : AllMet (head_demands ((0, 0x00) ∷ (1, 0xFF) ∷ (2, 0xFF) ∷ (3, did group % 2 ^ 8) ∷ (5, dc % 2 ^ 8) ∷ []) os)
+        → data_octets (fields_in group os) (bodies_in os) ≡ take 24 os
+    unfolding data_octets fields_in bodies_in
     data-back head =
         ap (λ (l : List ℕ). 0x00 ∷ 0xFF ∷ 0xFF ∷ did group % 2 ^ 8 ∷ get_or os 4 0 ∷ dc % 2 ^ 8 ∷ phase % 2 ^ 8
         ∷ (phase / 2 ^ 8 + bit 4 (get_or os 7 0) * 2 ^ 4) ∷ l)

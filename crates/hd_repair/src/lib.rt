@@ -1,15 +1,15 @@
 // Repair of HD audio data packets.
 ghost use Rattle.std.specs.Prelude.{◌≡◌, length};
 ghost use Rattle.answer.specs.Answer.{mapped};
-ghost use Rattle.answer.specs.Said.{numberSaid};
-ghost use Rattle.hd_repair.specs.Repair.{lanesChanged, repairAnswer, wordsRepaired};
+ghost use Rattle.answer.specs.Said.{number_said};
+ghost use Rattle.hd_repair.specs.Repair.{lanes_changed, repair_answer, words_repaired};
 
 use answer::NumberAnswer;
 
 // Repairs 31 words into another 31, and says in how many lanes they differ: refusals 1, 14 above 1,023, 15, 13.
 pub fn repair_packet(words: &[u16], repaired: &mut [u16]) -> NumberAnswer
-    ensures result_value { numberSaid result ≡ mapped lanesChanged (repairAnswer words.now (length repaired.old)) }
-    ensures repaired_after { repaired.new ≡ wordsRepaired words.now repaired.old }
+    ensures result_value { number_said result ≡ mapped lanes_changed (repair_answer words.now (length repaired.old)) }
+    ensures repaired_after { repaired.new ≡ words_repaired words.now repaired.old }
 {
     if words.len() != 31 {
         return NumberAnswer::Refused {

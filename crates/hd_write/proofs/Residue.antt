@@ -5,10 +5,10 @@ use lib.ListN.{length}
 use Rattle.answer.specs.Residue.{NoResidue}
 use Rattle.answer.proofs.Residues.{no-residue-in}
 use Rattle.hd_packet.specs.declared.Fields.{Fields}
-use Rattle.hd_write.specs.Write.{packetWritten, writeDemands, writeAnswer, wordsWritten}
+use Rattle.hd_write.specs.Write.{packet_written, write_demands, write_answer, words_written}
 use Rattle.hd_write.proofs.WriteLaws.{packet-size}
 
 pub hd-write-leaves-none : (f : Fields) (bodies : List ℕ)
-    → NoResidue 31 (λ words. writeAnswer f bodies (length words)) (wordsWritten f bodies)
-unfolding writeAnswer
-hd-write-leaves-none f bodies = no-residue-in (λ new. new) 31 (writeDemands f bodies) (packetWritten f bodies) (λ room m. packet-size f bodies)
+    → NoResidue 31 (λ words. write_answer f bodies (length words)) (words_written f bodies)
+unfolding write_answer
+hd-write-leaves-none f bodies = no-residue-in (λ new. new) 31 (write_demands f bodies) (packet_written f bodies) (λ room m. packet-size f bodies)

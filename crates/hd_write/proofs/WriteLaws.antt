@@ -13,33 +13,33 @@ use Rattle.answer.specs.Answer.{Answer, Answer.accepted, verdict, rewritten}
 use Rattle.answer.specs.Demand.{◌&◌}
 use Rattle.answer.proofs.Chains.{value_of, met, passing}
 use Rattle.answer.proofs.Residues.{whole}
-use Rattle.codes.specs.Lanes.{checkOctets}
+use Rattle.codes.specs.Lanes.{check_octets}
 use Rattle.codes.proofs.CheckLaws.{length-checks, checks-below}
-use Rattle.hd_packet.specs.Packet.{octetsOf, packetOf, Ranges, dataOctets, oddBody}
+use Rattle.hd_packet.specs.Packet.{octets_of, packet_of, Ranges, data_octets, odd_body}
 use Rattle.hd_packet.specs.declared.Fields.{Fields}
 use Rattle.hd_packet.proofs.Channels.{below-append}
 use Rattle.hd_packet.proofs.Laid.{length-data, data-below, adf-octets}
 use Rattle.hd_packet.proofs.PacketLaws.{length-packet, octets-packet}
-use Rattle.hd_write.specs.Write.{inRanges, lowBody, packetWritten, writeDemands, writeAnswer, wordsWritten}
+use Rattle.hd_write.specs.Write.{in_ranges, low_body, packet_written, write_demands, write_answer, words_written}
 
 -- ---- the tests of a body
 
-pub low-true : (bodies : List ℕ) (i : ℕ) → (get_or bodies i 0 % 16 ≡ 0 → ⊥) → lowBody bodies i ≡ true
-unfolding lowBody
+pub low-true : (bodies : List ℕ) (i : ℕ) → (get_or bodies i 0 % 16 ≡ 0 → ⊥) → low_body bodies i ≡ true
+unfolding low_body
 low-true bodies i n = ap not (ne_eqb _ 0 n)
 
-pub low-false : (bodies : List ℕ) (i : ℕ) → get_or bodies i 0 % 16 ≡ 0 → lowBody bodies i ≡ false
-unfolding lowBody
+pub low-false : (bodies : List ℕ) (i : ℕ) → get_or bodies i 0 % 16 ≡ 0 → low_body bodies i ≡ false
+unfolding low_body
 low-false bodies i e = ap not (eq-eqb _ 0 e)
 
-pub clear-body : (bodies : List ℕ) (n : ℕ) → lowBody bodies n ≡ false → get_or bodies n 0 % 2 ^ 4 ≡ 0
-unfolding lowBody
+pub clear-body : (bodies : List ℕ) (n : ℕ) → low_body bodies n ≡ false → get_or bodies n 0 % 2 ^ 4 ≡ 0
+unfolding low_body
 clear-body bodies n f = eqb-true (get_or bodies n 0 % 2 ^ 4) 0 (not-false (eqb (get_or bodies n 0 % 2 ^ 4) 0) f)
 
 -- ---- the ranges
 
-pub ranges : (f : Fields) → inRanges f ≡ true → Ranges f
-unfolding inRanges
+pub ranges : (f : Fields) → in_ranges f ≡ true → Ranges f
+unfolding in_ranges
 ranges f e =
     let a = both_true (leb 1 f.group && leb f.group 4 && leb f.dbn 255 && leb f.phase 4095 && leb f.ck12 1 && leb f.z1 1)
     (leb f.z2 1) e in
@@ -59,8 +59,8 @@ ranges f e =
       second-pair = leb-true f.z2 1 a.1;
     }
 
-pub ranged : (f : Fields) → Ranges f → inRanges f ≡ true
-unfolding inRanges
+pub ranged : (f : Fields) → Ranges f → in_ranges f ≡ true
+unfolding in_ranges
 ranged f r =
     rw (
       le-leb 1 f.group r.some,
@@ -74,8 +74,8 @@ ranged f r =
 
 -- by the last, where the others hold
 pub last-range : (f : Fields) → 1 ≤ f.group → f.group ≤ 4 → f.dbn ≤ 255 → f.phase ≤ 4095 → f.ck12 ≤ 1 → f.z1 ≤ 1
-    → leb f.z2 1 ≡ inRanges f
-unfolding inRanges
+    → leb f.z2 1 ≡ in_ranges f
+unfolding in_ranges
 last-range f a b c d e g =
     rw (
       le-leb 1 f.group a,
@@ -90,29 +90,29 @@ last-range f a b c d e g =
 
 module _ (f : Fields) (bodies : List ℕ) where
   -- words 0 to 23 and the check words
-  abbrev pub writtenOctets : List ℕ
-  writtenOctets = dataOctets f bodies ++ checkOctets (dataOctets f bodies)
+  abbrev pub written_octets : List ℕ
+  written_octets = data_octets f bodies ++ check_octets (data_octets f bodies)
 
-  pub length-written : length writtenOctets ≡ 30
+  pub length-written : length written_octets ≡ 30
   length-written = simp (length-append, length-data, length-checks)
 
-  pub packet-of-octets : packetWritten f bodies ≡ packetOf writtenOctets
-  unfolding packetWritten
+  pub packet-of-octets : packet_written f bodies ≡ packet_of written_octets
+  unfolding packet_written
   packet-of-octets = refl
 
-  pub packet-size : length (packetWritten f bodies) ≡ 31
-  packet-size = ap length packet-of-octets ∙ length-packet writtenOctets length-written
+  pub packet-size : length (packet_written f bodies) ≡ 31
+  packet-size = ap length packet-of-octets ∙ length-packet written_octets length-written
 
   -- in ranges they are octets, and those of the packet
   module _ (r : Ranges f) where
-    pub written_below : Below (2 ^ 8) writtenOctets
-    written_below = below-append (dataOctets f bodies) (checkOctets (dataOctets f bodies)) (data-below f bodies r) (checks-below (dataOctets f bodies))
+    pub written_below : Below (2 ^ 8) written_octets
+    written_below = below-append (data_octets f bodies) (check_octets (data_octets f bodies)) (data-below f bodies r) (checks-below (data_octets f bodies))
 
-    pub written-octets : octetsOf (packetWritten f bodies) ≡ writtenOctets
+    pub written-octets : octets_of (packet_written f bodies) ≡ written_octets
     written-octets =
-        let adf = adf-octets f bodies (checkOctets (dataOctets f bodies)) in
-        ap octetsOf packet-of-octets
-        ∙ octets-packet writtenOctets length-written written_below (eqb-true _ 0x00 adf.0) (eqb-true _ 0xFF adf.1.0)
+        let adf = adf-octets f bodies (check_octets (data_octets f bodies)) in
+        ap octets_of packet-of-octets
+        ∙ octets-packet written_octets length-written written_below (eqb-true _ 0x00 adf.0) (eqb-true _ 0xFF adf.1.0)
         (eqb-true _ 0xFF adf.1.1.0)
 
 -- ---- acceptance
@@ -120,16 +120,16 @@ module _ (f : Fields) (bodies : List ℕ) where
 pub record Accepted (f : Fields) (bodies : List ℕ) : Type 0 where
   pub four : length bodies ≡ 4
   pub within : Ranges f
-  pub evens : (n : ℕ) → n < 4 → oddBody bodies n ≡ false
-  pub clear : (n : ℕ) → n < 4 → lowBody bodies n ≡ false
+  pub evens : (n : ℕ) → n < 4 → odd_body bodies n ≡ false
+  pub clear : (n : ℕ) → n < 4 → low_body bodies n ≡ false
 
 module _ (f : Fields) (bodies : List ℕ) where
   -- what is accepted is the packet, and all demands are met
-  pub accepting : (room : ℕ) {words : List ℕ} → writeAnswer f bodies room ≡ accepted words
-      → Accepted f bodies × (packetWritten f bodies ≡ words)
-  unfolding writeAnswer
+  pub accepting : (room : ℕ) {words : List ℕ} → write_answer f bodies room ≡ accepted words
+      → Accepted f bodies × (packet_written f bodies ≡ words)
+  unfolding write_answer
   accepting room {words} e =
-      let k = met (packetWritten f bodies) (writeDemands f bodies room) e in
+      let k = met (packet_written f bodies) (write_demands f bodies room) e in
       let m = k.0 in
       let four = eqb-true (length bodies) 4 m.0 in (
         record {
@@ -142,20 +142,20 @@ module _ (f : Fields) (bodies : List ℕ) where
       )
 
   -- and then the packet stands in the 31 words lent
-  pub packet-left : (old : List ℕ) → verdict (writeAnswer f bodies (length old)) ≡ accepted tt
-      → Accepted f bodies × (wordsWritten f bodies old ≡ packetWritten f bodies)
-  unfolding writeAnswer
+  pub packet-left : (old : List ℕ) → verdict (write_answer f bodies (length old)) ≡ accepted tt
+      → Accepted f bodies × (words_written f bodies old ≡ packet_written f bodies)
+  unfolding write_answer
   packet-left old e =
-      let v = value_of (λ w. tt) (writeAnswer f bodies (length old)) e in
-      let m = met (packetWritten f bodies) (writeDemands f bodies (length old)) v.1 in (
+      let v = value_of (λ w. tt) (write_answer f bodies (length old)) e in
+      let m = met (packet_written f bodies) (write_demands f bodies (length old)) v.1 in (
         (accepting (length old) v.1).0,
         ap (λ (a : Answer (List ℕ)). rewritten a old) (v.1 ∙ ap accepted (sym m.1))
-            ∙ whole (λ w. w) (packetWritten f bodies) old (packet-size f bodies ∙ sym (eqb-true (length old) 31 m.0.1.0)),
+            ∙ whole (λ w. w) (packet_written f bodies) old (packet-size f bodies ∙ sym (eqb-true (length old) 31 m.0.1.0)),
       )
 
-  pub accepts : Accepted f bodies → writeAnswer f bodies 31 ≡ accepted (packetWritten f bodies)
-  unfolding writeAnswer
+  pub accepts : Accepted f bodies → write_answer f bodies 31 ≡ accepted (packet_written f bodies)
+  unfolding write_answer
   accepts a =
-      passing (accepted (packetWritten f bodies)) (writeDemands f bodies 31)
+      passing (accepted (packet_written f bodies)) (write_demands f bodies 31)
       (eq-eqb (length bodies) 4 a.four & refl & ranged f a.within & (λ n k l. a.evens n (omega (arith, a.four)))
       & (λ n k l. a.clear n (omega (arith, a.four))) & tt)

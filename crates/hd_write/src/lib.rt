@@ -1,17 +1,17 @@
 // The writer of HD audio data packets.
 ghost use Rattle.std.specs.Prelude.{◌≡◌, [], ◌∷◌, ◌++◌, ◌≤◌, length, replicate};
 ghost use Rattle.answer.specs.Answer.{verdict};
-ghost use Rattle.answer.specs.Said.{verdictSaid};
-ghost use Rattle.hd_packet.specs.Packet.{Ranges, channelOctets, withZ, dataOctets};
-ghost use Rattle.hd_write.specs.Write.{inRanges, writeAnswer, wordsWritten};
-ghost use Rattle.hd_write.specs.Inner.{fourOctets, firstOdd, firstLow};
+ghost use Rattle.answer.specs.Said.{verdict_said};
+ghost use Rattle.hd_packet.specs.Packet.{Ranges, channel_octets, with_z, data_octets};
+ghost use Rattle.hd_write.specs.Write.{in_ranges, write_answer, words_written};
+ghost use Rattle.hd_write.specs.Inner.{four_octets, first_odd, first_low};
 
 use answer::Verdict;
 use hd_packet::Fields;
 
 // Group 1 to 4, DBN to 255, clock phase to 4,095, ck12 and both Z 0 or 1.
 fn in_ranges(f: Fields) -> bool
-    ensures { result ≡ inRanges f }
+    ensures { result ≡ in_ranges f }
 {
     if f.group < 1 {
         return false;
@@ -36,7 +36,7 @@ fn in_ranges(f: Fields) -> bool
 
 // The first body with an odd number of ones in slots 4 to 31, or how many bodies there are.
 fn first_odd(bodies: &[u32]) -> usize
-    ensures { result ≡ firstOdd bodies.now }
+    ensures { result ≡ first_odd bodies.now }
 {
     let mut i = 0;
     while i < bodies.len() {
@@ -50,7 +50,7 @@ fn first_odd(bodies: &[u32]) -> usize
 
 // The first body with one of its low four bits set, or how many bodies there are.
 fn first_low(bodies: &[u32]) -> usize
-    ensures { result ≡ firstLow bodies.now }
+    ensures { result ≡ first_low bodies.now }
 {
     let mut i = 0;
     while i < bodies.len() {
@@ -74,7 +74,7 @@ pub struct Channel {
 // Those of a body, with Z in b3 of the first.
 fn of_body(body: u32, z: u32) -> Channel
     requires { z ≤ 1 }
-    ensures { fourOctets result ≡ withZ z (channelOctets body) }
+    ensures { four_octets result ≡ with_z z (channel_octets body) }
 {
     Channel {
         first: (body / 16 % 16 * 16 + z * 8) as u8,
@@ -87,7 +87,7 @@ fn of_body(body: u32, z: u32) -> Channel
 // Words 0 to 23, with room for the check words. The first channel of each pair has its Z.
 fn lay_data(f: Fields, a: u32, b: u32, c: u32, d: u32) -> [u8; 30]
     requires { Ranges f }
-    ensures { result ≡ dataOctets f (a ∷ b ∷ c ∷ d ∷ []) ++ replicate 6 0 }
+    ensures { result ≡ data_octets f (a ∷ b ∷ c ∷ d ∷ []) ++ replicate 6 0 }
 {
     let w = of_body(a, f.z1);
     let x = of_body(b, 0);
@@ -129,8 +129,8 @@ fn lay_data(f: Fields, a: u32, b: u32, c: u32, d: u32) -> [u8; 30]
 
 // Writes the packet of these fields and four bodies into 31 words: refusals 1, 2, 9 over all bodies, 12 over all bodies.
 pub fn write_packet(f: Fields, bodies: &[u32], words: &mut [u16]) -> Verdict
-    ensures result_value { verdictSaid result ≡ verdict (writeAnswer f bodies.now (length words.old)) }
-    ensures words_after { words.new ≡ wordsWritten f bodies.now words.old }
+    ensures result_value { verdict_said result ≡ verdict (write_answer f bodies.now (length words.old)) }
+    ensures words_after { words.new ≡ words_written f bodies.now words.old }
 {
     if bodies.len() != 4 {
         return Verdict::Refused {

@@ -17,10 +17,10 @@ use Rattle.hd_repair.proofs.Residue.{hd-repair-leaves-none}
 use Rattle.hd_control.proofs.Residue.{control-write-leaves-none}
 use Rattle.talkback.proofs.Residue.{join-leaves-none, separate-leaves-none-in-program, separate-leaves-none-in-voice}
 use Rattle.levels.proofs.Limits.{start-leaves-none, add-leaves, join-leaves}
-use Rattle.levels.specs.Calls.{asBlock}
+use Rattle.levels.specs.Calls.{as_block}
 use Rattle.replay.proofs.Kept.{replay-leaves}
-use Rattle.lampcoil.specs.Told.{fieldsLent}
-use Rattle.lampcoil.specs.Control.{controlLent}
+use Rattle.lampcoil.specs.Told.{fields_lent}
+use Rattle.lampcoil.specs.Control.{control_lent}
 use Rattle.lampcoil.specs.Lent.{Lent, Promised}
 
 pub nothing_left : (l : Lent) → Promised l
@@ -42,16 +42,16 @@ nothing_left Lent.lease-ask-table = asking-in-place
 nothing_left Lent.lease-return-table = giving-back-in-place
 nothing_left Lent.lease-close-table = λ moves. closing-in-place (length moves)
 nothing_left Lent.lease-close-moves = closing-leaves-none
-nothing_left Lent.hd-write-words = λ group dbn phase ck12 z1 z2 bodies. hd-write-leaves-none (fieldsLent group dbn phase ck12 z1 z2) bodies
+nothing_left Lent.hd-write-words = λ group dbn phase ck12 z1 z2 bodies. hd-write-leaves-none (fields_lent group dbn phase ck12 z1 z2) bodies
 nothing_left Lent.hd-read-bodies = hd-read-leaves-none
 nothing_left Lent.hd-repair-repaired = hd-repair-leaves-none
 nothing_left Lent.hd-control-write-words =
     λ group frame rate asynchronous active valid12 delay12 valid34 delay34.
-    control-write-leaves-none (controlLent group frame rate asynchronous active valid12 delay12 valid34 delay34)
+    control-write-leaves-none (control_lent group frame rate asynchronous active valid12 delay12 valid34 delay34)
 nothing_left Lent.talkback-join-samples = join-leaves-none
 nothing_left Lent.talkback-separate-program = λ samples side voice. separate-leaves-none-in-program samples side (length voice)
 nothing_left Lent.talkback-separate-voice = λ samples side program. separate-leaves-none-in-voice samples side (length program)
 nothing_left Lent.level-start-sheet = start-leaves-none
-nothing_left Lent.level-add-sheet = λ samples side. add-leaves (asBlock samples side)
+nothing_left Lent.level-add-sheet = λ samples side. add-leaves (as_block samples side)
 nothing_left Lent.level-join-sheet = join-leaves
 nothing_left Lent.replay-sheet = replay-leaves

@@ -4,8 +4,8 @@ use Rattle.answer.specs.Answer.{Answer, told}
 use Rattle.hd_control.specs.declared.Control.{Control}
 use Rattle.lampcoil.specs.declared.control.ToldControl.{ToldControl}
 
-abbrev pub noControl : Control
-noControl = record {
+abbrev pub no_control : Control
+no_control = record {
   group = 0;
   frame = 0;
   rate = 0;
@@ -17,8 +17,8 @@ noControl = record {
   delay34 = pos 0;
 }
 
-abbrev pub controlLent : ℕ → ℕ → ℕ → ℕ → ℕ → ℕ → ℤ → ℕ → ℤ → Control
-controlLent group frame rate asynchronous active valid12 delay12 valid34 delay34 = record {
+abbrev pub control_lent : ℕ → ℕ → ℕ → ℕ → ℕ → ℕ → ℤ → ℕ → ℤ → Control
+control_lent group frame rate asynchronous active valid12 delay12 valid34 delay34 = record {
   group = group;
   frame = frame;
   rate = rate;
@@ -30,9 +30,9 @@ controlLent group frame rate asynchronous active valid12 delay12 valid34 delay34
   delay34 = delay34;
 }
 
-abbrev pub toldControl : Answer Control → ToldControl
-toldControl a =
-    let t = told noControl a in
+abbrev pub told_control : Answer Control → ToldControl
+told_control a =
+    let t = told no_control a in
     record {
       number = t.0;
       place = t.1;

@@ -4,7 +4,7 @@ use Rattle.answer.specs.Answer.{Answer, told}
 use Rattle.lampcoil.specs.declared.lease.ToldSlots.{ToldSlots}
 
 -- slot k at weight 2 ^ k
-abbrev pub toldSlots : Answer ℕ → ToldSlots
-toldSlots a =
+abbrev pub told_slots : Answer ℕ → ToldSlots
+told_slots a =
     let t = told 0 a in
     record { number = t.0; place = t.1; slots = t.2 }

@@ -2,7 +2,7 @@
 -- count. Assumes nothing.
 use Rattle.std.specs.Prelude.{ℕ, ℤ, pos}
 use Rattle.answer.specs.Answer.{Answer, told}
-use Rattle.status.specs.Numbers.{consumerNumbers}
+use Rattle.status.specs.Numbers.{consumer_numbers}
 use Rattle.status.specs.declared.MeaningNumbers.{MeaningNumbers}
 use Rattle.hd_packet.specs.declared.Fields.{Fields}
 use Rattle.lampcoil.specs.declared.Told.{Told}
@@ -15,22 +15,22 @@ use Rattle.lampcoil.specs.declared.ToldFrame.{ToldFrame}
 use Rattle.lampcoil.specs.declared.ToldPacket.{ToldPacket}
 
 -- no value
-abbrev pub toldVerdict : Answer (Unit {0}) → Told
-toldVerdict a = record { number = (told tt a).0; place = (told tt a).1 }
+abbrev pub told_verdict : Answer (Unit {0}) → Told
+told_verdict a = record { number = (told tt a).0; place = (told tt a).1 }
 
 -- one number
-abbrev pub toldNumber : Answer ℕ → ToldNumber
-toldNumber a = record { number = (told 0 a).0; place = (told 0 a).1; value = (told 0 a).2 }
+abbrev pub told_number : Answer ℕ → ToldNumber
+told_number a = record { number = (told 0 a).0; place = (told 0 a).1; value = (told 0 a).2 }
 
 -- sample, V, U, C of a body
-abbrev pub toldBody : Answer (ℤ × ℕ × ℕ × ℕ) → ToldBody
-toldBody a =
+abbrev pub told_body : Answer (ℤ × ℕ × ℕ × ℕ) → ToldBody
+told_body a =
     let t = told (pos 0, 0, 0, 0) a in
     record { number = t.0; place = t.1; sample = t.2.0; v = t.2.1; u = t.2.2; c = t.2.3 }
 
 -- the meaning of channel status, with a number before it
-abbrev pub meaningLaid : ℕ → MeaningNumbers → ToldMeaning
-meaningLaid n m =
+abbrev pub meaning_laid : ℕ → MeaningNumbers → ToldMeaning
+meaning_laid n m =
     record {
       number = n;
       place = 0;
@@ -53,40 +53,40 @@ meaningLaid n m =
     }
 
 -- each refusal of it is at place 0; the numbers of consumer use are all 0
-abbrev pub toldMeaning : Answer MeaningNumbers → ToldMeaning
-toldMeaning a =
-    let t = told consumerNumbers a in
-    meaningLaid t.0 t.2
+abbrev pub told_meaning : Answer MeaningNumbers → ToldMeaning
+told_meaning a =
+    let t = told consumer_numbers a in
+    meaning_laid t.0 t.2
 
 -- whether the CRCC of A and of B is right
-abbrev pub toldBlock : Answer (ℕ × ℕ) → ToldBlock
-toldBlock a =
+abbrev pub told_block : Answer (ℕ × ℕ) → ToldBlock
+told_block a =
     let t = told (0, 0) a in
     record { number = t.0; place = t.1; crcc_a = t.2.0; crcc_b = t.2.1 }
 
 -- where a block starts; the number of symbols compared stands beside a refusal too
-abbrev pub toldStart : Answer ℕ × ℕ → ToldStart
-toldStart a =
+abbrev pub told_start : Answer ℕ × ℕ → ToldStart
+told_start a =
     let t = told 0 a.0 in
     record { number = t.0; place = t.1; position = t.2; compared = a.1 }
 
 -- active count and command count
-abbrev pub toldFrame : Answer (ℕ × ℕ) → ToldFrame
-toldFrame a =
+abbrev pub told_frame : Answer (ℕ × ℕ) → ToldFrame
+told_frame a =
     let t = told (0, 0) a in
     record { number = t.0; place = t.1; active = t.2.0; commands = t.2.1 }
 
 -- the fields of a packet
-abbrev pub noFields : Fields
-noFields = record { group = 0; dbn = 0; phase = 0; ck12 = 0; z1 = 0; z2 = 0 }
+abbrev pub no_fields : Fields
+no_fields = record { group = 0; dbn = 0; phase = 0; ck12 = 0; z1 = 0; z2 = 0 }
 
 -- those that C lends
-abbrev pub fieldsLent : ℕ → ℕ → ℕ → ℕ → ℕ → ℕ → Fields
-fieldsLent group dbn phase ck12 z1 z2 = record { group = group; dbn = dbn; phase = phase; ck12 = ck12; z1 = z1; z2 = z2 }
+abbrev pub fields_lent : ℕ → ℕ → ℕ → ℕ → ℕ → ℕ → Fields
+fields_lent group dbn phase ck12 z1 z2 = record { group = group; dbn = dbn; phase = phase; ck12 = ck12; z1 = z1; z2 = z2 }
 
-abbrev pub toldPacket : Answer Fields → ToldPacket
-toldPacket a =
-    let t = told noFields a in
+abbrev pub told_packet : Answer Fields → ToldPacket
+told_packet a =
+    let t = told no_fields a in
     record {
       number = t.0;
       place = t.1;

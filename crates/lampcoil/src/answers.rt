@@ -2,19 +2,19 @@
 // values, which are 0 on a refusal, but for the hunt's count.
 ghost use Rattle.std.specs.Prelude.{◌≡◌};
 ghost use Rattle.answer.specs.Answer.{Answer.refused};
-ghost use Rattle.answer.specs.Said.{verdictSaid, numberSaid};
-ghost use Rattle.aes3_read.specs.Reader.{blockSaid};
-ghost use Rattle.aes3_hunt.specs.Said.{huntSaid};
-ghost use Rattle.madi_read.specs.Reader.{frameSaid};
-ghost use Rattle.hd_read.specs.Read.{packetSaid};
-ghost use Rattle.lampcoil.specs.Told.{toldVerdict, toldNumber, meaningLaid, toldBlock, toldStart, toldFrame, toldPacket};
+ghost use Rattle.answer.specs.Said.{verdict_said, number_said};
+ghost use Rattle.aes3_read.specs.Reader.{block_said};
+ghost use Rattle.aes3_hunt.specs.Said.{hunt_said};
+ghost use Rattle.madi_read.specs.Reader.{frame_said};
+ghost use Rattle.hd_read.specs.Read.{packet_said};
+ghost use Rattle.lampcoil.specs.Told.{told_verdict, told_number, meaning_laid, told_block, told_start, told_frame, told_packet};
 
 use crate::{Told, ToldBlock, ToldFrame, ToldMeaning, ToldNumber, ToldPacket, ToldStart};
 use answer::{NumberAnswer, Verdict};
 use status::MeaningNumbers;
 
 pub fn verdict(a: Verdict) -> Told
-    ensures { result ≡ toldVerdict (verdictSaid a) }
+    ensures { result ≡ told_verdict (verdict_said a) }
 {
     match a {
         Verdict::Accepted => Told {
@@ -26,7 +26,7 @@ pub fn verdict(a: Verdict) -> Told
 }
 
 pub fn number(a: NumberAnswer) -> ToldNumber
-    ensures { result ≡ toldNumber (numberSaid a) }
+    ensures { result ≡ told_number (number_said a) }
 {
     match a {
         NumberAnswer::Number(value) => ToldNumber {
@@ -44,7 +44,7 @@ pub fn number(a: NumberAnswer) -> ToldNumber
 
 // Numbers with a refusal's number beside them, or 0.
 pub fn meaning(number: u32, m: MeaningNumbers) -> ToldMeaning
-    ensures { result ≡ meaningLaid number m }
+    ensures { result ≡ meaning_laid number m }
 {
     ToldMeaning {
         number,
@@ -69,7 +69,7 @@ pub fn meaning(number: u32, m: MeaningNumbers) -> ToldMeaning
 }
 
 pub fn block(a: aes3_read::ReadAnswer) -> ToldBlock
-    ensures { result ≡ toldBlock (blockSaid a) }
+    ensures { result ≡ told_block (block_said a) }
 {
     match a {
         aes3_read::ReadAnswer::Read { crcc_a, crcc_b } => ToldBlock {
@@ -89,7 +89,7 @@ pub fn block(a: aes3_read::ReadAnswer) -> ToldBlock
 
 // No start: the count is told beside the refusal.
 fn no_start(number: u32, place: u32, count: u32) -> ToldStart
-    ensures { result ≡ toldStart (refused number place, count) }
+    ensures { result ≡ told_start (refused number place, count) }
 {
     ToldStart {
         number,
@@ -100,7 +100,7 @@ fn no_start(number: u32, place: u32, count: u32) -> ToldStart
 }
 
 pub fn start(a: aes3_hunt::HuntAnswer) -> ToldStart
-    ensures { result ≡ toldStart (huntSaid a) }
+    ensures { result ≡ told_start (hunt_said a) }
 {
     let found = a.start;
     let compared = a.compared;
@@ -116,7 +116,7 @@ pub fn start(a: aes3_hunt::HuntAnswer) -> ToldStart
 }
 
 pub fn frame(a: madi_read::ReadAnswer) -> ToldFrame
-    ensures { result ≡ toldFrame (frameSaid a) }
+    ensures { result ≡ told_frame (frame_said a) }
 {
     match a {
         madi_read::ReadAnswer::Read { active, commands } => ToldFrame {
@@ -135,7 +135,7 @@ pub fn frame(a: madi_read::ReadAnswer) -> ToldFrame
 }
 
 pub fn packet(a: hd_read::ReadAnswer) -> ToldPacket
-    ensures { result ≡ toldPacket (packetSaid a) }
+    ensures { result ≡ told_packet (packet_said a) }
 {
     match a {
         hd_read::ReadAnswer::Read(fields) => ToldPacket {

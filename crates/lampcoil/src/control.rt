@@ -1,11 +1,11 @@
 // HD audio control packets.
 ghost use Rattle.std.specs.Prelude.{◌≡◌, length};
 ghost use Rattle.answer.specs.Answer.{verdict};
-ghost use Rattle.hd_control.specs.Write.{writeAnswer};
-ghost use Rattle.hd_control.specs.Write.{controlWritten};
-ghost use Rattle.hd_control.specs.Read.{readAnswer, controlSaid};
-ghost use Rattle.lampcoil.specs.Told.{toldVerdict};
-ghost use Rattle.lampcoil.specs.Control.{toldControl, controlLent};
+ghost use Rattle.hd_control.specs.Write.{write_answer};
+ghost use Rattle.hd_control.specs.Write.{control_written};
+ghost use Rattle.hd_control.specs.Read.{read_answer, control_said};
+ghost use Rattle.lampcoil.specs.Told.{told_verdict};
+ghost use Rattle.lampcoil.specs.Control.{told_control, control_lent};
 
 use crate::{Told, answers};
 use hd_control::{Control, ControlAnswer};
@@ -28,7 +28,7 @@ pub struct ToldControl {
 }
 
 pub fn control(a: ControlAnswer) -> ToldControl
-    ensures { result ≡ toldControl (controlSaid a) }
+    ensures { result ≡ told_control (control_said a) }
 {
     match a {
         ControlAnswer::Read(c) => ToldControl {
@@ -74,8 +74,8 @@ pub extern "C" fn lampcoil_hd_control_write(
     delay34: i32,
     words: &mut [u16],
 ) -> Told
-    ensures value { result ≡ toldVerdict (verdict (writeAnswer (controlLent group frame rate asynchronous active valid12 delay12 valid34 delay34) (length words.old))) }
-    ensures words_after { words.new ≡ controlWritten (controlLent group frame rate asynchronous active valid12 delay12 valid34 delay34) words.old }
+    ensures value { result ≡ told_verdict (verdict (write_answer (control_lent group frame rate asynchronous active valid12 delay12 valid34 delay34) (length words.old))) }
+    ensures words_after { words.new ≡ control_written (control_lent group frame rate asynchronous active valid12 delay12 valid34 delay34) words.old }
 {
     let fields = Control {
         group,
@@ -94,7 +94,7 @@ pub extern "C" fn lampcoil_hd_control_write(
 // The fields of a control packet.
 #[unsafe(no_mangle)]
 pub extern "C" fn lampcoil_hd_control_read(words: &[u16]) -> ToldControl
-    ensures { result ≡ toldControl (readAnswer words.now) }
+    ensures { result ≡ told_control (read_answer words.now) }
 {
     control(hd_control::read_control(words))
 }

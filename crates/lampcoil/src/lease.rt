@@ -2,10 +2,10 @@
 ghost use Rattle.std.specs.Prelude.{◌≡◌, length};
 ghost use Rattle.answer.specs.Answer.{mapped};
 ghost use Rattle.leases.specs.Table.{slots_of};
-ghost use Rattle.leases.specs.Calls.{askAnswer, askTable, backAnswer, backTable, leaseSaid};
-ghost use Rattle.leases.specs.Calls.{closeAnswer, leasedCount, closeTable, closeMoves};
-ghost use Rattle.lampcoil.specs.Told.{toldNumber};
-ghost use Rattle.lampcoil.specs.Slots.{toldSlots};
+ghost use Rattle.leases.specs.Calls.{ask_answer, ask_table, back_answer, back_table, lease_said};
+ghost use Rattle.leases.specs.Calls.{close_answer, leased_count, close_table, close_moves};
+ghost use Rattle.lampcoil.specs.Told.{told_number};
+ghost use Rattle.lampcoil.specs.Slots.{told_slots};
 
 use crate::{ToldNumber, answers};
 use leases::LeaseAnswer;
@@ -20,7 +20,7 @@ pub struct ToldSlots {
 }
 
 fn slots(a: LeaseAnswer) -> ToldSlots
-    ensures { result ≡ toldSlots (leaseSaid a) }
+    ensures { result ≡ told_slots (lease_said a) }
 {
     match a {
         LeaseAnswer::Held(slots) => ToldSlots {
@@ -39,8 +39,8 @@ fn slots(a: LeaseAnswer) -> ToldSlots
 // A tenant asks for n slots, and gets the n lowest free ones.
 #[unsafe(no_mangle)]
 pub extern "C" fn lampcoil_lease_ask(table: &mut [u8], tenant: u32, n: u32) -> ToldSlots
-    ensures value { result ≡ toldSlots (mapped (slots_of tenant) (askAnswer tenant n table.old)) }
-    ensures table_after { table.new ≡ askTable tenant n table.old }
+    ensures value { result ≡ told_slots (mapped (slots_of tenant) (ask_answer tenant n table.old)) }
+    ensures table_after { table.new ≡ ask_table tenant n table.old }
 {
     slots(leases::ask(table, tenant, n))
 }
@@ -48,8 +48,8 @@ pub extern "C" fn lampcoil_lease_ask(table: &mut [u8], tenant: u32, n: u32) -> T
 // A tenant gives back all of its own.
 #[unsafe(no_mangle)]
 pub extern "C" fn lampcoil_lease_return(table: &mut [u8], tenant: u32) -> ToldSlots
-    ensures value { result ≡ toldSlots (mapped (slots_of tenant) (backAnswer tenant table.old)) }
-    ensures table_after { table.new ≡ backTable tenant table.old }
+    ensures value { result ≡ told_slots (mapped (slots_of tenant) (back_answer tenant table.old)) }
+    ensures table_after { table.new ≡ back_table tenant table.old }
 {
     slots(leases::give_back(table, tenant))
 }
@@ -57,9 +57,9 @@ pub extern "C" fn lampcoil_lease_return(table: &mut [u8], tenant: u32) -> ToldSl
 // The house closes the gaps, and gets the old and the new position of each leased slot.
 #[unsafe(no_mangle)]
 pub extern "C" fn lampcoil_lease_close(table: &mut [u8], moves: &mut [u8]) -> ToldNumber
-    ensures value { result ≡ toldNumber (mapped leasedCount (closeAnswer (length moves.old) table.old)) }
-    ensures table_after { table.new ≡ closeTable (length moves.old) table.old }
-    ensures moves_after { moves.new ≡ closeMoves table.old moves.old }
+    ensures value { result ≡ told_number (mapped leased_count (close_answer (length moves.old) table.old)) }
+    ensures table_after { table.new ≡ close_table (length moves.old) table.old }
+    ensures moves_after { moves.new ≡ close_moves table.old moves.old }
 {
     answers::number(leases::close(table, moves))
 }

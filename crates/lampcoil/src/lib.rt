@@ -4,26 +4,26 @@
 // of its uses.
 ghost use Rattle.std.specs.Prelude.{◌≡◌, length};
 ghost use Rattle.answer.specs.Answer.{Answer.accepted, mapped, verdict, after, rewritten};
-ghost use Rattle.subframe.specs.Body.{bodyWritten, bodyRead};
-ghost use Rattle.codes.specs.Crcc.{stagesFed, stagesSent, sealAnswer, sealed};
-ghost use Rattle.codes.specs.Edit.{editAnswer, edited};
+ghost use Rattle.subframe.specs.Body.{body_written, body_read};
+ghost use Rattle.codes.specs.Crcc.{stages_fed, stages_sent, seal_answer, sealed};
+ghost use Rattle.codes.specs.Edit.{edit_answer, edited};
 ghost use Rattle.codes.specs.Lane.{repaired};
-ghost use Rattle.line.specs.Biphase.{tableLaid};
-ghost use Rattle.block.specs.Block.{samplesOf, side_of};
-ghost use Rattle.aes3_write.specs.Writer.{writeAnswer};
-ghost use Rattle.aes3_read.specs.Reader.{readAnswer, crccs};
-ghost use Rattle.aes3_hunt.specs.Hunt.{boundedHunt};
+ghost use Rattle.line.specs.Biphase.{table_laid};
+ghost use Rattle.block.specs.Block.{samples_of, side_of};
+ghost use Rattle.aes3_write.specs.Writer.{write_answer};
+ghost use Rattle.aes3_read.specs.Reader.{read_answer, crccs};
+ghost use Rattle.aes3_hunt.specs.Hunt.{bounded_hunt};
 ghost use Rattle.aes3_hunt.specs.Align.{aligned};
-ghost use Rattle.madi_write.specs.Writer.{frameWritten};
-ghost use Rattle.madi_read.specs.Reader.{frameRead, countsOf, words_of, commandsOf};
-ghost use Rattle.hd_write.specs.Write.{wordsWritten};
-ghost use Rattle.hd_write.specs.Write.{writeAnswer as packetAnswer};
-ghost use Rattle.hd_read.specs.Read.{fieldsRead, bodiesAfter};
-ghost use Rattle.hd_read.specs.Read.{readAnswer as packetReadAnswer};
-ghost use Rattle.hd_repair.specs.Repair.{repairAnswer, lanesChanged, wordsRepaired};
-ghost use Rattle.anc.specs.Dbn.{nextDbn};
-ghost use Rattle.lampcoil.specs.Status.{rightAnswer, meaningAnswer};
-ghost use Rattle.lampcoil.specs.Told.{toldVerdict, toldNumber, toldBody, toldMeaning, toldBlock, toldStart, toldFrame, toldPacket, fieldsLent};
+ghost use Rattle.madi_write.specs.Writer.{frame_written};
+ghost use Rattle.madi_read.specs.Reader.{frame_read, counts_of, words_of, commands_of};
+ghost use Rattle.hd_write.specs.Write.{words_written};
+ghost use Rattle.hd_write.specs.Write.{write_answer as packet_answer};
+ghost use Rattle.hd_read.specs.Read.{fields_read, bodies_after};
+ghost use Rattle.hd_read.specs.Read.{read_answer as packet_read_answer};
+ghost use Rattle.hd_repair.specs.Repair.{repair_answer, lanes_changed, words_repaired};
+ghost use Rattle.anc.specs.Dbn.{next_dbn};
+ghost use Rattle.lampcoil.specs.Status.{right_answer, meaning_answer};
+ghost use Rattle.lampcoil.specs.Told.{told_verdict, told_number, told_body, told_meaning, told_block, told_start, told_frame, told_packet, fields_lent};
 
 mod answers;
 mod control;
@@ -136,7 +136,7 @@ pub struct ToldPacket {
 // The body of a sample and V, U and C.
 #[unsafe(no_mangle)]
 pub extern "C" fn lampcoil_body_write(sample: i32, v: u32, u: u32, c: u32) -> ToldNumber
-    ensures { result ≡ toldNumber (bodyWritten sample v u c) }
+    ensures { result ≡ told_number (body_written sample v u c) }
 {
     answers::number(subframe::write_body(sample, v, u, c))
 }
@@ -144,7 +144,7 @@ pub extern "C" fn lampcoil_body_write(sample: i32, v: u32, u: u32, c: u32) -> To
 // The sample and V, U and C of a body.
 #[unsafe(no_mangle)]
 pub extern "C" fn lampcoil_body_read(body: u32) -> ToldBody
-    ensures { result ≡ toldBody (bodyRead body) }
+    ensures { result ≡ told_body (body_read body) }
 {
     match subframe::read_body(body) {
         FieldsAnswer::Fields { sample, v, u, c } => ToldBody {
@@ -171,7 +171,7 @@ pub extern "C" fn lampcoil_body_read(body: u32) -> ToldBody
 // Writes byte 23 of 24 octets of status.
 #[unsafe(no_mangle)]
 pub extern "C" fn lampcoil_status_seal(status: &mut [u8]) -> Told
-    ensures value { result ≡ toldVerdict (verdict (sealAnswer status.old)) }
+    ensures value { result ≡ told_verdict (verdict (seal_answer status.old)) }
     ensures status_after { status.new ≡ sealed status.old }
 {
     answers::verdict(codes::seal(status))
@@ -180,7 +180,7 @@ pub extern "C" fn lampcoil_status_seal(status: &mut [u8]) -> Told
 // Writes one byte, of 0 to 22, of 24 octets of status whose CRCC is right, and byte 23 after it.
 #[unsafe(no_mangle)]
 pub extern "C" fn lampcoil_status_edit(status: &mut [u8], byte: u32, value: u32) -> Told
-    ensures value { result ≡ toldVerdict (verdict (editAnswer status.old byte value)) }
+    ensures value { result ≡ told_verdict (verdict (edit_answer status.old byte value)) }
     ensures status_after { status.new ≡ edited status.old byte value }
 {
     answers::verdict(codes::status_edit(status, byte, value))
@@ -189,7 +189,7 @@ pub extern "C" fn lampcoil_status_edit(status: &mut [u8], byte: u32, value: u32)
 // Whether the CRCC of 24 octets of status is right.
 #[unsafe(no_mangle)]
 pub extern "C" fn lampcoil_status_right(status: &[u8]) -> ToldNumber
-    ensures { result ≡ toldNumber (rightAnswer status.now) }
+    ensures { result ≡ told_number (right_answer status.now) }
 {
     if status.len() != 24 {
         return ToldNumber {
@@ -215,7 +215,7 @@ pub extern "C" fn lampcoil_status_right(status: &[u8]) -> ToldNumber
 // What 24 octets of status say of use, audio, emphasis, lock, rate, mode, user bits, auxiliary bits, word length and alignment.
 #[unsafe(no_mangle)]
 pub extern "C" fn lampcoil_status_read(status: &[u8]) -> ToldMeaning
-    ensures { result ≡ toldMeaning (meaningAnswer status.now) }
+    ensures { result ≡ told_meaning (meaning_answer status.now) }
 {
     if status.len() != 24 {
         return answers::meaning(1, status::meaning_numbers(0, 0, 0));
@@ -226,7 +226,7 @@ pub extern "C" fn lampcoil_status_read(status: &[u8]) -> ToldMeaning
 // The CRCC's stages before the first bit.
 #[unsafe(no_mangle)]
 pub extern "C" fn lampcoil_crcc_start() -> ToldNumber
-    ensures { result ≡ toldNumber (accepted 0b11111111) }
+    ensures { result ≡ told_number (accepted 0b11111111) }
 {
     let c = codes::Crcc::start();
     ToldNumber {
@@ -239,7 +239,7 @@ pub extern "C" fn lampcoil_crcc_start() -> ToldNumber
 // The CRCC's stages after one bit more.
 #[unsafe(no_mangle)]
 pub extern "C" fn lampcoil_crcc_feed(stages: u32, bit: u32) -> ToldNumber
-    ensures { result ≡ toldNumber (stagesFed stages bit) }
+    ensures { result ≡ told_number (stages_fed stages bit) }
 {
     answers::number(codes::crcc_fed(stages, bit))
 }
@@ -247,7 +247,7 @@ pub extern "C" fn lampcoil_crcc_feed(stages: u32, bit: u32) -> ToldNumber
 // Byte 23 from the CRCC's stages after bits 0 to 183.
 #[unsafe(no_mangle)]
 pub extern "C" fn lampcoil_crcc_value(stages: u32) -> ToldNumber
-    ensures { result ≡ toldNumber (stagesSent stages) }
+    ensures { result ≡ told_number (stages_sent stages) }
 {
     answers::number(codes::crcc_value(stages))
 }
@@ -257,7 +257,7 @@ pub extern "C" fn lampcoil_crcc_value(stages: u32) -> ToldNumber
 // The satisfying lane within one place of a lane.
 #[unsafe(no_mangle)]
 pub extern "C" fn lampcoil_lane_repair(lane: u32) -> ToldNumber
-    ensures { result ≡ toldNumber (repaired lane) }
+    ensures { result ≡ told_number (repaired lane) }
 {
     answers::number(codes::lane_repair(lane))
 }
@@ -272,8 +272,8 @@ pub extern "C" fn lampcoil_aes3_write(
     level: u32,
     line: &mut [u8],
 ) -> Told
-    ensures value { result ≡ toldVerdict (verdict (writeAnswer samples.now side.now level (length line.old))) }
-    ensures line_after { line.new ≡ rewritten (writeAnswer samples.now side.now level (length line.old)) line.old }
+    ensures value { result ≡ told_verdict (verdict (write_answer samples.now side.now level (length line.old))) }
+    ensures line_after { line.new ≡ rewritten (write_answer samples.now side.now level (length line.old)) line.old }
 {
     answers::verdict(aes3_write::write_block(samples, side, level, line))
 }
@@ -281,8 +281,8 @@ pub extern "C" fn lampcoil_aes3_write(
 // The table of biphase codings by octet, which the writer goes by and a card loads.
 #[unsafe(no_mangle)]
 pub extern "C" fn lampcoil_biphase_table(table: &mut [u16]) -> Told
-    ensures value { result ≡ toldVerdict (verdict (tableLaid (length table.old))) }
-    ensures table_after { table.new ≡ rewritten (tableLaid (length table.old)) table.old }
+    ensures value { result ≡ told_verdict (verdict (table_laid (length table.old))) }
+    ensures table_after { table.new ≡ rewritten (table_laid (length table.old)) table.old }
 {
     answers::verdict(line::lay_biphase_table(table))
 }
@@ -290,9 +290,9 @@ pub extern "C" fn lampcoil_biphase_table(table: &mut [u16]) -> Told
 // The samples and the side table of a block, and whether the CRCC of each channel is right.
 #[unsafe(no_mangle)]
 pub extern "C" fn lampcoil_aes3_read(line: &[u8], samples: &mut [i32], side: &mut [u8]) -> ToldBlock
-    ensures value { result ≡ toldBlock (mapped crccs (readAnswer line.now (length samples.old) (length side.old))) }
-    ensures samples_after { samples.new ≡ after samplesOf (readAnswer line.now (length samples.old) (length side.old)) samples.old }
-    ensures side_after { side.new ≡ after side_of (readAnswer line.now (length samples.old) (length side.old)) side.old }
+    ensures value { result ≡ told_block (mapped crccs (read_answer line.now (length samples.old) (length side.old))) }
+    ensures samples_after { samples.new ≡ after samples_of (read_answer line.now (length samples.old) (length side.old)) samples.old }
+    ensures side_after { side.new ≡ after side_of (read_answer line.now (length samples.old) (length side.old)) side.old }
 {
     answers::block(aes3_read::read_block(line, samples, side))
 }
@@ -300,7 +300,7 @@ pub extern "C" fn lampcoil_aes3_read(line: &[u8], samples: &mut [i32], side: &mu
 // Where the first block of a line starts, and how many symbols were compared.
 #[unsafe(no_mangle)]
 pub extern "C" fn lampcoil_aes3_find(line: &[u8]) -> ToldStart
-    ensures { result ≡ toldStart (boundedHunt line.now) }
+    ensures { result ≡ told_start (bounded_hunt line.now) }
 {
     answers::start(aes3_hunt::find_start(line))
 }
@@ -308,7 +308,7 @@ pub extern "C" fn lampcoil_aes3_find(line: &[u8]) -> ToldStart
 // The 3,072 octets of symbols that begin at a position, so that the block which the hunt found can be read.
 #[unsafe(no_mangle)]
 pub extern "C" fn lampcoil_aes3_align(line: &[u8], position: u32, block: &mut [u8]) -> Told
-    ensures value { result ≡ toldVerdict (verdict (aligned line.now position (length block.old))) }
+    ensures value { result ≡ told_verdict (verdict (aligned line.now position (length block.old))) }
     ensures block_after { block.new ≡ rewritten (aligned line.now position (length block.old)) block.old }
 {
     answers::verdict(aes3_hunt::align(line, position, block))
@@ -325,8 +325,8 @@ pub extern "C" fn lampcoil_madi_write(
     level: u32,
     line: &mut [u8],
 ) -> Told
-    ensures value { result ≡ toldVerdict (verdict (frameWritten channels words.now commands.now level (length line.old))) }
-    ensures line_after { line.new ≡ rewritten (frameWritten channels words.now commands.now level (length line.old)) line.old }
+    ensures value { result ≡ told_verdict (verdict (frame_written channels words.now commands.now level (length line.old))) }
+    ensures line_after { line.new ≡ rewritten (frame_written channels words.now commands.now level (length line.old)) line.old }
 {
     answers::verdict(madi_write::write_frame(channels, words, commands, level, line))
 }
@@ -341,9 +341,9 @@ pub extern "C" fn lampcoil_madi_read(
     words: &mut [u32],
     commands: &mut [u8],
 ) -> ToldFrame
-    ensures value { result ≡ toldFrame (mapped countsOf (frameRead channels level bits line.now (length words.old) (length commands.old))) }
-    ensures words_after { words.new ≡ after words_of (frameRead channels level bits line.now (length words.old) (length commands.old)) words.old }
-    ensures commands_after { commands.new ≡ after commandsOf (frameRead channels level bits line.now (length words.old) (length commands.old)) commands.old }
+    ensures value { result ≡ told_frame (mapped counts_of (frame_read channels level bits line.now (length words.old) (length commands.old))) }
+    ensures words_after { words.new ≡ after words_of (frame_read channels level bits line.now (length words.old) (length commands.old)) words.old }
+    ensures commands_after { commands.new ≡ after commands_of (frame_read channels level bits line.now (length words.old) (length commands.old)) commands.old }
 {
     answers::frame(madi_read::read_frame(channels, level, bits, line, words, commands))
 }
@@ -362,8 +362,8 @@ pub extern "C" fn lampcoil_hd_write(
     bodies: &[u32],
     words: &mut [u16],
 ) -> Told
-    ensures value { result ≡ toldVerdict (verdict (packetAnswer (fieldsLent group dbn phase ck12 z1 z2) bodies.now (length words.old))) }
-    ensures words_after { words.new ≡ wordsWritten (fieldsLent group dbn phase ck12 z1 z2) bodies.now words.old }
+    ensures value { result ≡ told_verdict (verdict (packet_answer (fields_lent group dbn phase ck12 z1 z2) bodies.now (length words.old))) }
+    ensures words_after { words.new ≡ words_written (fields_lent group dbn phase ck12 z1 z2) bodies.now words.old }
 {
     let fields = Fields {
         group,
@@ -379,8 +379,8 @@ pub extern "C" fn lampcoil_hd_write(
 // The bodies of a packet, its group, DBN, clock phase, ck12 and both Z.
 #[unsafe(no_mangle)]
 pub extern "C" fn lampcoil_hd_read(words: &[u16], bodies: &mut [u32]) -> ToldPacket
-    ensures value { result ≡ toldPacket (mapped fieldsRead (packetReadAnswer words.now (length bodies.old))) }
-    ensures bodies_after { bodies.new ≡ bodiesAfter words.now bodies.old }
+    ensures value { result ≡ told_packet (mapped fields_read (packet_read_answer words.now (length bodies.old))) }
+    ensures bodies_after { bodies.new ≡ bodies_after words.now bodies.old }
 {
     answers::packet(hd_read::read_packet(words, bodies))
 }
@@ -388,8 +388,8 @@ pub extern "C" fn lampcoil_hd_read(words: &[u16], bodies: &mut [u32]) -> ToldPac
 // A packet with every lane repaired, and in how many lanes it differs from the one received.
 #[unsafe(no_mangle)]
 pub extern "C" fn lampcoil_hd_repair(words: &[u16], repaired: &mut [u16]) -> ToldNumber
-    ensures value { result ≡ toldNumber (mapped lanesChanged (repairAnswer words.now (length repaired.old))) }
-    ensures repaired_after { repaired.new ≡ wordsRepaired words.now repaired.old }
+    ensures value { result ≡ told_number (mapped lanes_changed (repair_answer words.now (length repaired.old))) }
+    ensures repaired_after { repaired.new ≡ words_repaired words.now repaired.old }
 {
     answers::number(hd_repair::repair_packet(words, repaired))
 }
@@ -397,7 +397,7 @@ pub extern "C" fn lampcoil_hd_repair(words: &[u16], repaired: &mut [u16]) -> Tol
 // The data block number after this one.
 #[unsafe(no_mangle)]
 pub extern "C" fn lampcoil_hd_next_dbn(dbn: u32) -> ToldNumber
-    ensures { result ≡ toldNumber (nextDbn dbn) }
+    ensures { result ≡ told_number (next_dbn dbn) }
 {
     answers::number(anc::next_dbn(dbn))
 }

@@ -1,7 +1,7 @@
 // The replay of a night's packets.
 ghost use Rattle.std.specs.Prelude.{◌≡◌};
-ghost use Rattle.replay.specs.Replay.{replayTold, sheetAfter};
-ghost use Rattle.lampcoil.specs.Night.{toldReplay};
+ghost use Rattle.replay.specs.Replay.{replay_told, sheet_after};
+ghost use Rattle.lampcoil.specs.Night.{told_replay};
 
 use replay::Replayed;
 
@@ -17,7 +17,7 @@ pub struct ToldReplay {
 }
 
 fn replayed(a: Replayed) -> ToldReplay
-    ensures { result ≡ toldReplay a }
+    ensures { result ≡ told_replay a }
 {
     let figures = a.figures;
     ToldReplay {
@@ -32,8 +32,8 @@ fn replayed(a: Replayed) -> ToldReplay
 // Replays a file of records from a sheet into it.
 #[unsafe(no_mangle)]
 pub extern "C" fn lampcoil_replay(records: &[u8], sheet: &mut [u32]) -> ToldReplay
-    ensures value { result ≡ toldReplay (replayTold records.now sheet.old) }
-    ensures sheet_after { sheet.new ≡ sheetAfter records.now sheet.old }
+    ensures value { result ≡ told_replay (replay_told records.now sheet.old) }
+    ensures sheet_after { sheet.new ≡ sheet_after records.now sheet.old }
 {
     replayed(replay::replay(records, sheet))
 }

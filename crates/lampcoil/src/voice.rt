@@ -1,8 +1,8 @@
 // Talkback: the voice in the auxiliary bits of a block.
 ghost use Rattle.std.specs.Prelude.{◌≡◌, length};
 ghost use Rattle.answer.specs.Answer.{verdict, after, rewritten};
-ghost use Rattle.talkback.specs.Talkback.{program_of, voiceOf, voiceJoinAnswer, separateAnswer};
-ghost use Rattle.lampcoil.specs.Told.{toldVerdict};
+ghost use Rattle.talkback.specs.Talkback.{program_of, voice_of, voice_join_answer, separate_answer};
+ghost use Rattle.lampcoil.specs.Told.{told_verdict};
 
 use crate::{Told, answers};
 
@@ -14,8 +14,8 @@ pub extern "C" fn lampcoil_talkback_join(
     side: &[u8],
     samples: &mut [i32],
 ) -> Told
-    ensures value { result ≡ toldVerdict (verdict (voiceJoinAnswer program.now voice.now side.now (length samples.old))) }
-    ensures samples_after { samples.new ≡ rewritten (voiceJoinAnswer program.now voice.now side.now (length samples.old)) samples.old }
+    ensures value { result ≡ told_verdict (verdict (voice_join_answer program.now voice.now side.now (length samples.old))) }
+    ensures samples_after { samples.new ≡ rewritten (voice_join_answer program.now voice.now side.now (length samples.old)) samples.old }
 {
     answers::verdict(talkback::join(program, voice, side, samples))
 }
@@ -28,9 +28,9 @@ pub extern "C" fn lampcoil_talkback_separate(
     program: &mut [i32],
     voice: &mut [i32],
 ) -> Told
-    ensures value { result ≡ toldVerdict (verdict (separateAnswer samples.now side.now (length program.old) (length voice.old))) }
-    ensures program_after { program.new ≡ after program_of (separateAnswer samples.now side.now (length program.old) (length voice.old)) program.old }
-    ensures voice_after { voice.new ≡ after voiceOf (separateAnswer samples.now side.now (length program.old) (length voice.old)) voice.old }
+    ensures value { result ≡ told_verdict (verdict (separate_answer samples.now side.now (length program.old) (length voice.old))) }
+    ensures program_after { program.new ≡ after program_of (separate_answer samples.now side.now (length program.old) (length voice.old)) program.old }
+    ensures voice_after { voice.new ≡ after voice_of (separate_answer samples.now side.now (length program.old) (length voice.old)) voice.old }
 {
     answers::verdict(talkback::separate(samples, side, program, voice))
 }

@@ -14,10 +14,10 @@ use Rattle.answer.specs.Demand.{Demand, Demand.asks, provided, AllMet, Stops, �
 use Rattle.answer.specs.Demand.Stops.{fails, later}
 use Rattle.answer.proofs.Chains.{not-both, met, stops, passing, stopped, beyond}
 use Rattle.answer.proofs.Residues.{whole}
-use Rattle.leases.specs.Table.{heldBy, granted, returned, closed, moves}
-use Rattle.leases.specs.Calls.{tenant, request, enoughFree, askDemands, askAnswer, askTable, backDemands, backAnswer, backTable}
-use Rattle.leases.specs.Calls.{leasedCount, closeDemands, closeAnswer, closeTable, movesList, closeMoves}
-use Rattle.leases.specs.Sequence.{Call, Call.ask, Call.giveBack, Call.close, answerTo, tableAfter}
+use Rattle.leases.specs.Table.{held_by, granted, returned, closed, moves}
+use Rattle.leases.specs.Calls.{tenant, request, enough_free, ask_demands, ask_answer, ask_table, back_demands, back_answer, back_table}
+use Rattle.leases.specs.Calls.{leased_count, close_demands, close_answer, close_table, moves_list, close_moves}
+use Rattle.leases.specs.Sequence.{Call, Call.ask, Call.give_back, Call.close, answer_to, table_after}
 use Rattle.leases.proofs.Holding.{length-granted, length-returned, returned-none}
 use Rattle.leases.proofs.Closing.{leased-le, length-closed, length-moves}
 
@@ -51,85 +51,85 @@ kept_by : {A : Type 0} (values : A → ℕ) (new : A → List ℕ) (a : Answer A
 kept_by values new (accepted v) old number place e = not-both (sym e)
 kept_by values new (refused n p) old number place e = refl
 
-pub length-list : (table : List ℕ) → length table ≡ 64 → length (movesList table) ≡ 128
-unfolding movesList
+pub length-list : (table : List ℕ) → length table ≡ 64 → length (moves_list table) ≡ 128
+unfolding moves_list
 length-list table e =
-    length-append (moves table) (replicate (128 - 2 * leasedCount table) 0)
-    ∙ omega (arith, length-moves 0 0 table, length-replicate {A = ℕ} (128 - 2 * leasedCount table) 0, leased-le table)
+    length-append (moves table) (replicate (128 - 2 * leased_count table) 0)
+    ∙ omega (arith, length-moves 0 0 table, length-replicate {A = ℕ} (128 - 2 * leased_count table) 0, leased-le table)
 
 -- ---- accepted calls
 
 module _ (table : List ℕ) where
-  pub asked_is : (t n : ℕ) (v : List ℕ) → askAnswer t n table ≡ accepted v → askTable t n table ≡ granted t n table
-  unfolding askAnswer
+  pub asked_is : (t n : ℕ) (v : List ℕ) → ask_answer t n table ≡ accepted v → ask_table t n table ≡ granted t n table
+  unfolding ask_answer
   asked_is t n v e =
-      let m = met (granted t n table) (askDemands t n table) e in
+      let m = met (granted t n table) (ask_demands t n table) e in
       ap (λ a. after (λ l. l) a table) (e ∙ ap accepted (sym m.1)) ∙ whole (λ l. l) (granted t n table) table (length-granted t n table)
 
-  pub given-back-is : (t : ℕ) (v : List ℕ) → backAnswer t table ≡ accepted v → backTable t table ≡ returned t table
-  unfolding backAnswer
+  pub given-back-is : (t : ℕ) (v : List ℕ) → back_answer t table ≡ accepted v → back_table t table ≡ returned t table
+  unfolding back_answer
   given-back-is t v e =
-      let m = met (returned t table) (backDemands t table) e in
+      let m = met (returned t table) (back_demands t table) e in
       ap (λ a. after (λ l. l) a table) (e ∙ ap accepted (sym m.1)) ∙ whole (λ l. l) (returned t table) table (length-returned t table)
 
-  module _ (old v : List ℕ) (e : closeAnswer (length old) table ≡ accepted v) where
-    closable : AllMet (closeDemands (length old) table) × (table ≡ v)
-    unfolding closeAnswer
-    closable = met table (closeDemands (length old) table) e
+  module _ (old v : List ℕ) (e : close_answer (length old) table ≡ accepted v) where
+    closable : AllMet (close_demands (length old) table) × (table ≡ v)
+    unfolding close_answer
+    closable = met table (close_demands (length old) table) e
 
-    pub closed_is : closeTable (length old) table ≡ closed table
+    pub closed_is : close_table (length old) table ≡ closed table
     closed_is =
         ap (λ a. after closed a table) (e ∙ ap accepted (sym closable.1)) ∙ whole closed table table (length-closed table)
 
-    pub moves-are : closeMoves table old ≡ movesList table
+    pub moves-are : close_moves table old ≡ moves_list table
     moves-are =
-        ap (λ a. after movesList a old) (e ∙ ap accepted (sym closable.1))
-        ∙ whole movesList table old
+        ap (λ a. after moves_list a old) (e ∙ ap accepted (sym closable.1))
+        ∙ whole moves_list table old
         (length-list table (eqb-true (length table) 64 closable.0.0) ∙ sym (eqb-true (length old) 128 closable.0.1.0))
 
 -- ---- the promises
 
 -- a refusal leaves the table as it was
-pub refusal-leaves-the-table : (c : Call) (table : List ℕ) (number place : ℕ) → answerTo c table ≡ refused number place
-    → tableAfter c table ≡ table
-refusal-leaves-the-table (ask t n) table number place e = kept_by _ (λ l. l) (askAnswer t n table) table number place e
-refusal-leaves-the-table (giveBack t) table number place e = kept_by _ (λ l. l) (backAnswer t table) table number place e
-refusal-leaves-the-table (close room) table number place e = kept_by _ closed (closeAnswer room table) table number place e
+pub refusal-leaves-the-table : (c : Call) (table : List ℕ) (number place : ℕ) → answer_to c table ≡ refused number place
+    → table_after c table ≡ table
+refusal-leaves-the-table (ask t n) table number place e = kept_by _ (λ l. l) (ask_answer t n table) table number place e
+refusal-leaves-the-table (give_back t) table number place e = kept_by _ (λ l. l) (back_answer t table) table number place e
+refusal-leaves-the-table (close room) table number place e = kept_by _ closed (close_answer room table) table number place e
 
 -- 21 exactly if fewer than n slots are free
 module _ (t n : ℕ) (table : List ℕ) (one : tenant t ≡ true) (some : request n ≡ true) (long : length table ≡ 64) where
-  pub too-few-free-is-21 : heldBy 0 table < n → askAnswer t n table ≡ refused 21 0
-  unfolding askAnswer
+  pub too-few-free-is-21 : held_by 0 table < n → ask_answer t n table ≡ refused 21 0
+  unfolding ask_answer
   too-few-free-is-21 h =
-      stopped (accepted (granted t n table)) (later one (later some (later (eq-eqb (length table) 64 long) (fails (lt-leb n (heldBy 0 table) h)))))
+      stopped (accepted (granted t n table)) (later one (later some (later (eq-eqb (length table) 64 long) (fails (lt-leb n (held_by 0 table) h)))))
 
-  pub only-too-few-free-is-21 : askAnswer t n table ≡ refused 21 0 → heldBy 0 table < n
-  unfolding askAnswer
+  pub only-too-few-free-is-21 : ask_answer t n table ≡ refused 21 0 → held_by 0 table < n
+  unfolding ask_answer
   only-too-few-free-is-21 e =
-      last (beyond (eq-eqb (length table) 64 long) (beyond some (beyond one (stops (granted t n table) (askDemands t n table) 21 0 e))))
+      last (beyond (eq-eqb (length table) 64 long) (beyond some (beyond one (stops (granted t n table) (ask_demands t n table) 21 0 e))))
     where
-      last : Stops (asks 21 0 (enoughFree n table) ∷ []) 21 0 → heldBy 0 table < n
-      last (fails f) = leb-false n (heldBy 0 table) f
+      last : Stops (asks 21 0 (enough_free n table) ∷ []) 21 0 → held_by 0 table < n
+      last (fails f) = leb-false n (held_by 0 table) f
 
 -- giving back with no slots is accepted and changes nothing
-pub giving-back-nothing : (t : ℕ) (table : List ℕ) → tenant t ≡ true → length table ≡ 64 → heldBy t table ≡ 0
-    → (backAnswer t table ≡ accepted table) × (backTable t table ≡ table)
-unfolding backAnswer
+pub giving-back-nothing : (t : ℕ) (table : List ℕ) → tenant t ≡ true → length table ≡ 64 → held_by t table ≡ 0
+    → (back_answer t table ≡ accepted table) × (back_table t table ≡ table)
+unfolding back_answer
 giving-back-nothing t table one long none =
-    let e : backAnswer t table ≡ accepted (returned t table) =
-    passing (accepted (returned t table)) (backDemands t table) (one & eq-eqb (length table) 64 long & tt) in
+    let e : back_answer t table ≡ accepted (returned t table) =
+    passing (accepted (returned t table)) (back_demands t table) (one & eq-eqb (length table) 64 long & tt) in
     let r : returned t table ≡ table = returned-none t table none in
     (e ∙ ap accepted r, given-back-is table t (returned t table) e ∙ r)
 
 -- no call makes the table longer or shorter
-pub same_length : (c : Call) (table : List ℕ) → length (tableAfter c table) ≡ length table
-unfolding askAnswer backAnswer closeAnswer
+pub same_length : (c : Call) (table : List ℕ) → length (table_after c table) ≡ length table
+unfolding ask_answer back_answer close_answer
 same_length (ask t n) table =
-    left-cases (λ l. l) table (granted t n table) (askDemands t n table) (λ l a. length l ≡ length table) (λ m. length-granted t n table)
+    left-cases (λ l. l) table (granted t n table) (ask_demands t n table) (λ l a. length l ≡ length table) (λ m. length-granted t n table)
     (λ m. length-granted t n table) (λ number place s. refl)
-same_length (giveBack t) table =
-    left-cases (λ l. l) table (returned t table) (backDemands t table) (λ l a. length l ≡ length table) (λ m. length-returned t table)
+same_length (give_back t) table =
+    left-cases (λ l. l) table (returned t table) (back_demands t table) (λ l a. length l ≡ length table) (λ m. length-returned t table)
     (λ m. length-returned t table) (λ number place s. refl)
 same_length (close room) table =
-    left-cases closed table table (closeDemands room table) (λ l a. length l ≡ length table) (λ m. length-closed table)
+    left-cases closed table table (close_demands room table) (λ l a. length l ≡ length table) (λ m. length-closed table)
     (λ m. length-closed table) (λ number place s. refl)

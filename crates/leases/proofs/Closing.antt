@@ -8,7 +8,7 @@ use native.Mathlib.Omega.{arith}
 use borrow.Author.Tests.{eq-eqb, ne_eqb}
 use lib.ListN.{length, get_or, replicate, length-append, length-replicate, get_or-append}
 use lib.Seq.{get_or-append-add}
-use Rattle.leases.specs.Table.{heldBy, leased, closed, movesFrom}
+use Rattle.leases.specs.Table.{held_by, leased, closed, moves_from}
 use Rattle.leases.proofs.Holding.{own-or-other, held_more, held-other, held-append, held-free}
 
 -- ---- the leased slots, one by one
@@ -64,13 +64,13 @@ leased-nonzero (x ∷ table) k h =
     front zero d later h = d
     front (suc k) d later h = later k (omega arith)
 
-pub held-leased : (t : ℕ) → t ≢ 0 → (table : List ℕ) → heldBy t (leased table) ≡ heldBy t table
+pub held-leased : (t : ℕ) → t ≢ 0 → (table : List ℕ) → held_by t (leased table) ≡ held_by t table
 unfolding leased
 held-leased t nz [] = refl
 held-leased t nz (x ∷ table) =
     own-or-other x 0
-    (λ e. ap (heldBy t) (leased-free x table e) ∙ held-leased t nz table ∙ sym (held-other t x table (λ q. nz (sym q ∙ e))))
-    (λ d. ap (heldBy t) (leased-taken x table d)
+    (λ e. ap (held_by t) (leased-free x table e) ∙ held-leased t nz table ∙ sym (held-other t x table (λ q. nz (sym q ∙ e))))
+    (λ d. ap (held_by t) (leased-taken x table d)
     ∙ omega (arith, held_more t x (leased table), held_more t x table, held-leased t nz table))
 
 -- ---- the promises
@@ -84,7 +84,7 @@ module _ (table : List ℕ) where
   length-closed = simp (length-append, length-replicate) (omega (arith, leased-le table))
 
   -- every tenant keeps its count
-  pub closing-keeps-counts : (t : ℕ) → t ≢ 0 → heldBy t (closed table) ≡ heldBy t table
+  pub closing-keeps-counts : (t : ℕ) → t ≢ 0 → held_by t (closed table) ≡ held_by t table
   unfolding closed
   closing-keeps-counts t nz =
       held-append t (leased table) free
@@ -119,18 +119,18 @@ module _ (table : List ℕ) where
 
 -- ---- the moves
 
-pub moves-free : (old new x : ℕ) (table : List ℕ) → x ≡ 0 → movesFrom old new (x ∷ table) ≡ movesFrom (suc old) new table
-unfolding movesFrom
+pub moves-free : (old new x : ℕ) (table : List ℕ) → x ≡ 0 → moves_from old new (x ∷ table) ≡ moves_from (suc old) new table
+unfolding moves_from
 moves-free old new x table e = rw (eq-eqb x 0 e)
 
 pub moves-taken : (old new x : ℕ) (table : List ℕ) → x ≢ 0
-    → movesFrom old new (x ∷ table) ≡ old ∷ new ∷ movesFrom (suc old) (suc new) table
-unfolding movesFrom
+    → moves_from old new (x ∷ table) ≡ old ∷ new ∷ moves_from (suc old) (suc new) table
+unfolding moves_from
 moves-taken old new x table d = rw (ne_eqb x 0 d)
 
 -- two octets for each leased slot
-pub length-moves : (old new : ℕ) (table : List ℕ) → length (movesFrom old new table) ≡ 2 * length (leased table)
-unfolding movesFrom leased
+pub length-moves : (old new : ℕ) (table : List ℕ) → length (moves_from old new table) ≡ 2 * length (leased table)
+unfolding moves_from leased
 length-moves old new [] = refl
 length-moves old new (x ∷ table) =
     own-or-other x 0

@@ -10,7 +10,7 @@ use lib.Dec.{eqb}
 use lib.ListN.{length, replicate, length-map}
 use Rattle.bits.specs.Pick.{pick}
 use Rattle.bits.specs.Row.{digit, count, little}
-use Rattle.leases.specs.Table.{heldBy, slots_of, granted, returned}
+use Rattle.leases.specs.Table.{held_by, slots_of, granted, returned}
 
 -- a slot is of a tenant or it is not
 pub own-or-other {ℓ} : {P : Type ℓ} (x t : ℕ) → (x ≡ t → P) → (x ≢ t → P) → P
@@ -22,24 +22,24 @@ own-or-other {P = P} x t own other = go (eqb x t) refl
 
 -- ---- slot by slot
 
-pub held_more : (t x : ℕ) (table : List ℕ) → heldBy t (x ∷ table) ≡ digit (eqb x t) + heldBy t table
-unfolding heldBy count
+pub held_more : (t x : ℕ) (table : List ℕ) → held_by t (x ∷ table) ≡ digit (eqb x t) + held_by t table
+unfolding held_by count
 held_more t x table = refl
 
-pub held-own : (t x : ℕ) (table : List ℕ) → x ≡ t → heldBy t (x ∷ table) ≡ suc (heldBy t table)
+pub held-own : (t x : ℕ) (table : List ℕ) → x ≡ t → held_by t (x ∷ table) ≡ suc (held_by t table)
 held-own t x table e = held_more t x table ∙ rw (eq-eqb x t e) (omega arith)
 
-pub held-other : (t x : ℕ) (table : List ℕ) → x ≢ t → heldBy t (x ∷ table) ≡ heldBy t table
+pub held-other : (t x : ℕ) (table : List ℕ) → x ≢ t → held_by t (x ∷ table) ≡ held_by t table
 held-other t x table d = held_more t x table ∙ rw (ne_eqb x t d) (omega arith)
 
-pub held-append : (t : ℕ) (a b : List ℕ) → heldBy t (a ++ b) ≡ heldBy t a + heldBy t b
-unfolding heldBy count
+pub held-append : (t : ℕ) (a b : List ℕ) → held_by t (a ++ b) ≡ held_by t a + held_by t b
+unfolding held_by count
 held-append t [] b = omega arith
 held-append t (x ∷ a) b = omega (arith, held-append t a b)
 
 -- free slots are no tenant's
-pub held-free : (t : ℕ) → t ≢ 0 → (n : ℕ) → heldBy t (replicate n 0) ≡ 0
-unfolding heldBy count
+pub held-free : (t : ℕ) → t ≢ 0 → (n : ℕ) → held_by t (replicate n 0) ≡ 0
+unfolding held_by count
 held-free t nz zero = refl
 held-free t nz (suc n) = rw (ne_eqb 0 t (λ e. nz (sym e))) (omega (arith, held-free t nz n))
 
@@ -64,13 +64,13 @@ granted-taken t n x table d = rw (ne_eqb x 0 d)
 
 module _ (t : ℕ) (nz : t ≢ 0) where
   -- a tenant that asks for no more than is free holds so many more
-  pub granted-own : (n : ℕ) (table : List ℕ) → n ≤ heldBy 0 table → heldBy t (granted t n table) ≡ heldBy t table + n
-  unfolding heldBy count
+  pub granted-own : (n : ℕ) (table : List ℕ) → n ≤ held_by 0 table → held_by t (granted t n table) ≡ held_by t table + n
+  unfolding held_by count
   granted-own zero table h = rw (granted-none t table) (omega arith)
   granted-own (suc n) [] h = absurd (omega arith)
   granted-own (suc n) (x ∷ table) h =
       own-or-other x 0
-      (λ e. ap (heldBy t) (granted-free t n x table e)
+      (λ e. ap (held_by t) (granted-free t n x table e)
       ∙ omega (
         arith,
         held-own t t (granted t n table) refl,
@@ -78,7 +78,7 @@ module _ (t : ℕ) (nz : t ≢ 0) where
         held-other t x table (λ q. nz (sym q ∙ e)),
         granted-own n table (omega (arith, held-own 0 x table e)),
       ))
-      (λ d. ap (heldBy t) (granted-taken t n x table d)
+      (λ d. ap (held_by t) (granted-taken t n x table d)
       ∙ omega (
         arith,
         held_more t x (granted t (suc n) table),
@@ -88,28 +88,28 @@ module _ (t : ℕ) (nz : t ≢ 0) where
       ))
 
   -- and no other tenant holds more or less
-  pub granted-other : (u : ℕ) → u ≢ 0 → t ≢ u → (n : ℕ) (table : List ℕ) → heldBy u (granted t n table) ≡ heldBy u table
-  granted-other u uz ne zero table = ap (heldBy u) (granted-none t table)
-  granted-other u uz ne (suc n) [] = ap (heldBy u) (granted-nowhere t (suc n))
+  pub granted-other : (u : ℕ) → u ≢ 0 → t ≢ u → (n : ℕ) (table : List ℕ) → held_by u (granted t n table) ≡ held_by u table
+  granted-other u uz ne zero table = ap (held_by u) (granted-none t table)
+  granted-other u uz ne (suc n) [] = ap (held_by u) (granted-nowhere t (suc n))
   granted-other u uz ne (suc n) (x ∷ table) =
       own-or-other x 0
-      (λ e. ap (heldBy u) (granted-free t n x table e) ∙ held-other u t (granted t n table) ne ∙ granted-other u uz ne n table
+      (λ e. ap (held_by u) (granted-free t n x table e) ∙ held-other u t (granted t n table) ne ∙ granted-other u uz ne n table
       ∙ sym (held-other u x table (λ q. uz (sym q ∙ e))))
-      (λ d. ap (heldBy u) (granted-taken t n x table d)
+      (λ d. ap (held_by u) (granted-taken t n x table d)
       ∙ omega (arith, held_more u x (granted t (suc n) table), held_more u x table, granted-other u uz ne (suc n) table))
 
   -- ---- giving back
 
-  pub returned-own : (table : List ℕ) → heldBy t (returned t table) ≡ 0
-  unfolding heldBy count returned
+  pub returned-own : (table : List ℕ) → held_by t (returned t table) ≡ 0
+  unfolding held_by count returned
   returned-own [] = refl
   returned-own (x ∷ table) =
       own-or-other x t
       (λ e. rw (eq-eqb x t e, ne_eqb 0 t (λ q. nz (sym q))) (omega (arith, returned-own table)))
       (λ d. rw (ne_eqb x t d, ne_eqb x t d) (omega (arith, returned-own table)))
 
-  pub returned-other : (u : ℕ) → u ≢ 0 → t ≢ u → (table : List ℕ) → heldBy u (returned t table) ≡ heldBy u table
-  unfolding heldBy count returned
+  pub returned-other : (u : ℕ) → u ≢ 0 → t ≢ u → (table : List ℕ) → held_by u (returned t table) ≡ held_by u table
+  unfolding held_by count returned
   returned-other u uz ne [] = refl
   returned-other u uz ne (x ∷ table) =
       own-or-other x t
@@ -142,7 +142,7 @@ unfolding returned
 length-returned t table = length-map table (λ x. pick (eqb x t) 0 x)
 
 -- a tenant that holds no slot gives none back
-pub returned-none : (t : ℕ) (table : List ℕ) → heldBy t table ≡ 0 → returned t table ≡ table
+pub returned-none : (t : ℕ) (table : List ℕ) → held_by t table ≡ 0 → returned t table ≡ table
 unfolding returned
 returned-none t [] e = refl
 returned-none t (x ∷ table) e =

@@ -13,7 +13,7 @@ use lib.ListN.{length, get_or, length-map}
 use Rattle.bits.specs.Row.{odd, count, little}
 use Rattle.bits.proofs.Rows.{little-lt, bits-little, odd-little}
 use Rattle.bits.proofs.Counts.{count_ones}
-use Rattle.leases.specs.Table.{row_of, heldBy, slots_of, granted}
+use Rattle.leases.specs.Table.{row_of, held_by, slots_of, granted}
 use Rattle.leases.proofs.Holding.{own-or-other}
 
 module _ (t : ℕ) (nz : t ≢ 0) where
@@ -56,8 +56,8 @@ slot-bit t table k h =
     odd-little (row_of t table) k (rw (length-map table (λ x. eqb x t)) h) ∙ row_at t table k h
 
 -- and its ones are as many as the tenant's slots
-pub slots-count : (t : ℕ) (table : List ℕ) → ones (slots_of t table) ≡ heldBy t table
-unfolding slots_of heldBy
+pub slots-count : (t : ℕ) (table : List ℕ) → ones (slots_of t table) ≡ held_by t table
+unfolding slots_of held_by
 slots-count t table =
     let r = row_of t table in
     sym (count_ones (length r) (little r) (little-lt r)) ∙ ap count (bits-little r)

@@ -8,9 +8,9 @@ use native.Mathlib.Omega.{arith}
 use lib.ListN.{length, get_or, take, drop, set, length-set, drop_of_length-le}
 use lib.Seq.{drop-cons, drop-set-lt, length-take-le}
 use Rattle.bits.proofs.Filling.{filled}
-use Rattle.leases.specs.Table.{leased, closed, movesFrom, moves}
-use Rattle.leases.specs.Calls.{movesList}
-use Rattle.leases.specs.Inner.{Moved, zeroedFrom}
+use Rattle.leases.specs.Table.{leased, closed, moves_from, moves}
+use Rattle.leases.specs.Calls.{moves_list}
+use Rattle.leases.specs.Inner.{Moved, zeroed_from}
 use Rattle.leases.proofs.Closing.{leased-free, leased-taken, moves-free, moves-taken}
 
 -- of a table that was table₀ the slots below `old` are done: `new` of them were leased, and stand in front; so do their
@@ -21,7 +21,7 @@ pub record Moving (table₀ table pairs : List ℕ) (new old : ℕ) : Type 0 whe
   pub slots : length table ≡ 64
   pub octets : length pairs ≡ 128
   pub tenants : take new table ++ leased (drop old table) ≡ leased table₀
-  pub told : take (2 * new) pairs ++ movesFrom old new (drop old table) ≡ moves table₀
+  pub told : take (2 * new) pairs ++ moves_from old new (drop old table) ≡ moves table₀
 
 module _ {table₀ table pairs : List ℕ} {new old : ℕ} (m : Moving table₀ table pairs new old) where
   module _ (h : old < 64) where
@@ -43,8 +43,8 @@ module _ {table₀ table pairs : List ℕ} {new old : ℕ} (m : Moving table₀ 
         drop-set-lt (old + 1) table new x (omega arith) ∙ ap (λ (k : ℕ). drop k table) (add-one old) in
         let e : take new table ++ (x ∷ leased rest) ≡ leased table₀ =
         ap (λ (l : List ℕ). take new table ++ l) (sym (ap leased here ∙ leased-taken x rest d)) ∙ m.tenants in
-        let q : take (2 * new) pairs ++ (old ∷ new ∷ movesFrom (suc old) (suc new) rest) ≡ moves table₀ =
-        ap (λ (l : List ℕ). take (2 * new) pairs ++ l) (sym (ap (movesFrom old new) here ∙ moves-taken old new x rest d)) ∙ m.told in
+        let q : take (2 * new) pairs ++ (old ∷ new ∷ moves_from (suc old) (suc new) rest) ≡ moves table₀ =
+        ap (λ (l : List ℕ). take (2 * new) pairs ++ l) (sym (ap (moves_from old new) here ∙ moves-taken old new x rest d)) ∙ m.told in
         let two : 2 * (new + 1) ≡ 2 * new + 1 + 1 = omega arith in
         record {
           behind = omega arith;
@@ -53,9 +53,9 @@ module _ {table₀ table pairs : List ℕ} {new old : ℕ} (m : Moving table₀ 
           octets = ap length p ∙ length-set (set pairs (2 * new) old) (2 * new + 1) new ∙ length-set pairs (2 * new) old ∙ m.octets;
           tenants = rw (n, t, s) (filled table (leased rest) (leased table₀) new x (omega (arith, m.slots)) e);
           told = rw (n, p, t, s, two, add-one old, add-one new)
-              (filled (set pairs (2 * new) old) (movesFrom (suc old) (suc new) rest) (moves table₀)
+              (filled (set pairs (2 * new) old) (moves_from (suc old) (suc new) rest) (moves table₀)
               (2 * new + 1) new (rw (length-set pairs (2 * new) old) (omega (arith, m.octets)))
-              (filled pairs (new ∷ movesFrom (suc old) (suc new) rest) (moves table₀) (2 * new) old (omega (arith, m.octets)) q));
+              (filled pairs (new ∷ moves_from (suc old) (suc new) rest) (moves table₀) (2 * new) old (omega (arith, m.octets)) q));
         }
 
     -- a free slot is passed over
@@ -69,11 +69,11 @@ module _ {table₀ table pairs : List ℕ} {new old : ℕ} (m : Moving table₀ 
       tenants = rw (n, t, add-one old)
           (ap (λ (l : List ℕ). take new table ++ l) (sym (ap leased here ∙ leased-free x rest z)) ∙ m.tenants);
       told = rw (n, p, t, add-one old)
-          (ap (λ (l : List ℕ). take (2 * new) pairs ++ l) (sym (ap (movesFrom old new) here ∙ moves-free old new x rest z)) ∙ m.told);
+          (ap (λ (l : List ℕ). take (2 * new) pairs ++ l) (sym (ap (moves_from old new) here ∙ moves-free old new x rest z)) ∙ m.told);
     }
 
   pub moved : 64 ≤ old → Moved table₀ table pairs new
-  unfolding leased movesFrom
+  unfolding leased moves_from
   moved h =
       let n : drop old table ≡ [] = drop_of_length-le table {i = old} (omega (arith, m.slots)) in
       let f : take new table ≡ leased table₀ =
@@ -83,16 +83,16 @@ module _ {table₀ table pairs : List ℕ} {new old : ℕ} (m : Moving table₀ 
         few = omega (arith, m.behind, m.within);
         in-front = f;
         told = sym (append-nil (take (2 * new) pairs))
-            ∙ ap (λ (l : List ℕ). take (2 * new) pairs ++ movesFrom old new l) (sym n) ∙ m.told;
+            ∙ ap (λ (l : List ℕ). take (2 * new) pairs ++ moves_from old new l) (sym n) ∙ m.told;
       }
 
 -- ---- the rest is cleared
 
 module _ {table₀ table pairs : List ℕ} {r : ℕ} (m : Moved table₀ table pairs r) (slots : length table ≡ length table₀) where
-  pub cleared-table : zeroedFrom r table ≡ closed table₀
-  unfolding zeroedFrom closed
+  pub cleared-table : zeroed_from r table ≡ closed table₀
+  unfolding zeroed_from closed
   cleared-table = rw (m.in-front, slots, m.as_many)
 
-  pub cleared-moves : length pairs ≡ 128 → zeroedFrom (2 * r) pairs ≡ movesList table₀
-  unfolding zeroedFrom movesList
+  pub cleared-moves : length pairs ≡ 128 → zeroed_from (2 * r) pairs ≡ moves_list table₀
+  unfolding zeroed_from moves_list
   cleared-moves octets = rw (m.told, octets, m.as_many)

@@ -6,16 +6,16 @@ use mathlib.Core.List.{List, [], ◌∷◌}
 use Prim.Native.Nat.{ℕ, zero, suc, ◌+◌, ◌-◌, ◌*◌, ◌≤◌, ◌<◌}
 use native.Mathlib.Omega.{arith}
 use lib.ListN.{length, get_or}
-use Rattle.leases.specs.Table.{leased, closed, movesFrom, moves}
+use Rattle.leases.specs.Table.{leased, closed, moves_from, moves}
 use Rattle.leases.proofs.Holding.{own-or-other}
 use Rattle.leases.proofs.Closing.{leased-free, leased-taken, moves-free, moves-taken, closed_at}
 
 module _ (old new : ℕ) (table : List ℕ) (k : ℕ) where
   abbrev from : ℕ
-  from = get_or (movesFrom old new table) (2 * k) 0
+  from = get_or (moves_from old new table) (2 * k) 0
 
   pub record Pair : Type 0 where
-    pub goes_to : get_or (movesFrom old new table) (2 * k + 1) 0 ≡ new + k
+    pub goes_to : get_or (moves_from old new table) (2 * k + 1) 0 ≡ new + k
     pub not-below : old ≤ from
     pub inside : from < old + length table
     pub was-there : get_or table (from - old) 0 ≡ get_or (leased table) k 0

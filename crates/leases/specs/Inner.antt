@@ -3,8 +3,8 @@ use Rattle.std.specs.Prelude.{ℕ, ◌-◌, ◌*◌, ◌≤◌, ◌≡◌, List,
 use Rattle.leases.specs.Table.{leased, moves}
 
 -- a list with zeros from a place on
-unfoldable pub zeroedFrom : ℕ → List ℕ → List ℕ
-zeroedFrom at xs = take at xs ++ replicate (length xs - at) 0
+unfoldable pub zeroed_from : ℕ → List ℕ → List ℕ
+zeroed_from at xs = take at xs ++ replicate (length xs - at) 0
 
 -- of the table at entry: r slots are leased, and stand in front of the table at exit; the moves stand in front of their
 -- list

@@ -10,8 +10,8 @@ abbrev pub row_of : ℕ → List ℕ → Row
 row_of t table = map (λ x. eqb x t) table
 
 -- how many slots are t's
-unfoldable pub heldBy : ℕ → List ℕ → ℕ
-heldBy t table = count (row_of t table)
+unfoldable pub held_by : ℕ → List ℕ → ℕ
+held_by t table = count (row_of t table)
 
 -- the same slots as a number, slot k at weight 2 ^ k
 unfoldable pub slots_of : ℕ → List ℕ → ℕ
@@ -42,10 +42,10 @@ closed table = leased table ++ replicate (length table - length (leased table)) 
 
 -- for each leased slot in order its old and its new position, where the first slot is at `old` and the first leased one
 -- goes to `new`
-unfoldable pub movesFrom : ℕ → ℕ → List ℕ → List ℕ
-movesFrom old new [] = []
-movesFrom old new (x ∷ table) =
-    pick (eqb x 0) (movesFrom (suc old) new table) (old ∷ new ∷ movesFrom (suc old) (suc new) table)
+unfoldable pub moves_from : ℕ → ℕ → List ℕ → List ℕ
+moves_from old new [] = []
+moves_from old new (x ∷ table) =
+    pick (eqb x 0) (moves_from (suc old) new table) (old ∷ new ∷ moves_from (suc old) (suc new) table)
 
 abbrev pub moves : List ℕ → List ℕ
-moves table = movesFrom 0 0 table
+moves table = moves_from 0 0 table

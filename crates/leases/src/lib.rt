@@ -3,11 +3,11 @@
 ghost use Rattle.std.specs.Prelude.{◌≡◌, ◌+◌, ◌*◌, ◌≤◌, eqb, length};
 ghost use Rattle.bits.specs.Row.{digit};
 ghost use Rattle.answer.specs.Answer.{mapped};
-ghost use Rattle.answer.specs.Said.{numberSaid};
-ghost use Rattle.leases.specs.Table.{heldBy, slots_of, granted, returned};
-ghost use Rattle.leases.specs.Inner.{Moved, zeroedFrom};
-ghost use Rattle.leases.specs.Calls.{tenant, request, askAnswer, askTable, backAnswer, backTable, leaseSaid};
-ghost use Rattle.leases.specs.Calls.{closeAnswer, leasedCount, closeTable, closeMoves};
+ghost use Rattle.answer.specs.Said.{number_said};
+ghost use Rattle.leases.specs.Table.{held_by, slots_of, granted, returned};
+ghost use Rattle.leases.specs.Inner.{Moved, zeroed_from};
+ghost use Rattle.leases.specs.Calls.{tenant, request, ask_answer, ask_table, back_answer, back_table, lease_said};
+ghost use Rattle.leases.specs.Calls.{close_answer, leased_count, close_table, close_moves};
 
 use answer::NumberAnswer;
 
@@ -53,7 +53,7 @@ fn is_of(x: u8, t: u8) -> u64
 
 // How many slots are t's; those of 0 are free.
 fn count_of(table: &[u8], t: u8) -> usize
-    ensures { result ≡ heldBy t table.now }
+    ensures { result ≡ held_by t table.now }
 {
     let mut n: usize = 0;
     let mut i: usize = 0;
@@ -112,7 +112,7 @@ fn release(table: &mut [u8], t: u8)
 // Zeros from a place on.
 fn zero_from(xs: &mut [u8], at: usize)
     requires { at ≤ length xs.old }
-    ensures { xs.new ≡ zeroedFrom at xs.old }
+    ensures { xs.new ≡ zeroed_from at xs.old }
 {
     let mut i = at;
     while i < xs.len() {
@@ -143,8 +143,8 @@ fn move_down(table: &mut [u8], moves: &mut [u8]) -> usize
 
 // A tenant asks for n slots and gets the n lowest free ones, beside those that it holds.
 pub fn ask(table: &mut [u8], tenant: u32, n: u32) -> LeaseAnswer
-    ensures result_value { leaseSaid result ≡ mapped (slots_of tenant) (askAnswer tenant n table.old) }
-    ensures table_after { table.new ≡ askTable tenant n table.old }
+    ensures result_value { lease_said result ≡ mapped (slots_of tenant) (ask_answer tenant n table.old) }
+    ensures table_after { table.new ≡ ask_table tenant n table.old }
 {
     if is_tenant(tenant) {
         if is_request(n) {
@@ -172,8 +172,8 @@ pub fn ask(table: &mut [u8], tenant: u32, n: u32) -> LeaseAnswer
 
 // A tenant gives back all of its own.
 pub fn give_back(table: &mut [u8], tenant: u32) -> LeaseAnswer
-    ensures result_value { leaseSaid result ≡ mapped (slots_of tenant) (backAnswer tenant table.old) }
-    ensures table_after { table.new ≡ backTable tenant table.old }
+    ensures result_value { lease_said result ≡ mapped (slots_of tenant) (back_answer tenant table.old) }
+    ensures table_after { table.new ≡ back_table tenant table.old }
 {
     if is_tenant(tenant) {
         if table.len() != SLOTS {
@@ -193,9 +193,9 @@ pub fn give_back(table: &mut [u8], tenant: u32) -> LeaseAnswer
 
 // The house closes the gaps, and gets the old and the new position of each leased slot.
 pub fn close(table: &mut [u8], moves: &mut [u8]) -> NumberAnswer
-    ensures result_value { numberSaid result ≡ mapped leasedCount (closeAnswer (length moves.old) table.old) }
-    ensures table_after { table.new ≡ closeTable (length moves.old) table.old }
-    ensures moves_after { moves.new ≡ closeMoves table.old moves.old }
+    ensures result_value { number_said result ≡ mapped leased_count (close_answer (length moves.old) table.old) }
+    ensures table_after { table.new ≡ close_table (length moves.old) table.old }
+    ensures moves_after { moves.new ≡ close_moves table.old moves.old }
 {
     if table.len() != SLOTS {
         return NumberAnswer::Refused {

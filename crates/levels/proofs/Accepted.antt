@@ -12,40 +12,40 @@ use lib.Signed.{mag}
 use Rattle.bits.specs.Pick.{pick, first}
 use Rattle.bits.proofs.Tests.{pick-cases, no-yes, order}
 use Rattle.answer.proofs.Chains.{search-cases}
-use Rattle.levels.specs.Lines.{inside, lowOf, high_of, markRight, lineSound, line_at, samplesOn, unsoundAt, sheetSound}
+use Rattle.levels.specs.Lines.{inside, low_of, high_of, mark_right, line_sound, line_at, samples_on, unsound_at, sheet_sound}
 
 -- ---- a sheet, by its lines
 
 module _ (s : List ℤ) where
-  pub sound-at : sheetSound s ≡ true → (k : ℕ) → k < 20 → lineSound (k % 10) (samplesOn s k) (line_at s k) ≡ true
-  unfolding sheetSound
+  pub sound-at : sheet_sound s ≡ true → (k : ℕ) → k < 20 → line_sound (k % 10) (samples_on s k) (line_at s k) ≡ true
+  unfolding sheet_sound
   sound-at e k h =
-      search-cases (unsoundAt s) (λ i. false) true 0 20 (λ x. x ≡ true → lineSound (k % 10) (samplesOn s k) (line_at s k) ≡ true)
+      search-cases (unsound_at s) (λ i. false) true 0 20 (λ x. x ≡ true → line_sound (k % 10) (samples_on s k) (line_at s k) ≡ true)
       (λ i l m t before q. no-yes false refl q) (λ none q. not-false _ (none k (omega arith) (omega arith))) e
 
-  pub some-unsound : (k : ℕ) → k < 20 → unsoundAt s k ≡ true → sheetSound s ≡ false
-  unfolding sheetSound
+  pub some-unsound : (k : ℕ) → k < 20 → unsound_at s k ≡ true → sheet_sound s ≡ false
+  unfolding sheet_sound
   some-unsound k h u =
-      search-cases (unsoundAt s) (λ i. false) true 0 20 (λ x. x ≡ false)
-      (λ i l m t before. refl) (λ none. no-yes (unsoundAt s k) (none k (omega arith) (omega arith)) u)
+      search-cases (unsound_at s) (λ i. false) true 0 20 (λ x. x ≡ false)
+      (λ i l m t before. refl) (λ none. no-yes (unsound_at s k) (none k (omega arith) (omega arith)) u)
 
-  pub all_sound : ((k : ℕ) → k < 20 → unsoundAt s k ≡ false) → sheetSound s ≡ true
-  unfolding sheetSound
+  pub all_sound : ((k : ℕ) → k < 20 → unsound_at s k ≡ false) → sheet_sound s ≡ true
+  unfolding sheet_sound
   all_sound all =
-      search-cases (unsoundAt s) (λ i. false) true 0 20 (λ x. x ≡ true)
-      (λ i l m t before. no-yes (unsoundAt s i) (all i (omega arith)) t) (λ none. refl)
+      search-cases (unsound_at s) (λ i. false) true 0 20 (λ x. x ≡ true)
+      (λ i l m t before. no-yes (unsound_at s i) (all i (omega arith)) t) (λ none. refl)
 
 -- ---- a line
 
 -- both tests of a line
-pub line-parts : (j n : ℕ) (x : ℤ) → lineSound j n x ≡ true → (inside (lowOf j n) (high_of j n) x ≡ true) × (markRight j n x ≡ true)
-unfolding lineSound
+pub line-parts : (j n : ℕ) (x : ℤ) → line_sound j n x ≡ true → (inside (low_of j n) (high_of j n) x ≡ true) × (mark_right j n x ≡ true)
+unfolding line_sound
 line-parts j n x e =
-    pick-cases (λ (y : Bool). y ≡ true → (inside (lowOf j n) (high_of j n) x ≡ true) × (markRight j n x ≡ true))
-    (inside (lowOf j n) (high_of j n) x) (markRight j n x) false (λ t m. (t, m)) (λ t m. no-yes false refl m) e
+    pick-cases (λ (y : Bool). y ≡ true → (inside (low_of j n) (high_of j n) x ≡ true) × (mark_right j n x ≡ true))
+    (inside (low_of j n) (high_of j n) x) (mark_right j n x) false (λ t m. (t, m)) (λ t m. no-yes false refl m) e
 
-pub line_made : (j n : ℕ) (x : ℤ) → inside (lowOf j n) (high_of j n) x ≡ true → markRight j n x ≡ true → lineSound j n x ≡ true
-unfolding lineSound
+pub line_made : (j n : ℕ) (x : ℤ) → inside (low_of j n) (high_of j n) x ≡ true → mark_right j n x ≡ true → line_sound j n x ≡ true
+unfolding line_sound
 line_made j n x i m = rw i m
 
 inside-small : (l h : ℕ) (x : ℤ) → inside l h x ≡ true → mag x ≤ l + h
@@ -61,8 +61,8 @@ lows false false true true n h = omega arith
 lows false false true false n h = omega arith
 lows false false false w n h = omega arith
 
-low_small : (j n : ℕ) → n ≤ 4294967296 → lowOf j n ≤ 36028797018963968
-unfolding lowOf
+low_small : (j n : ℕ) → n ≤ 4294967296 → low_of j n ≤ 36028797018963968
+unfolding low_of
 low_small j n h = lows (eqb j 5) (eqb j 2) (eqb j 3) (eqb n 0) n h
 
 highs : (s t u v w x z : Bool) (n : ℕ) → n ≤ 4294967296
@@ -84,49 +84,49 @@ high_small : (j n : ℕ) → n ≤ 4294967296 → high_of j n ≤ 36028797018963
 unfolding high_of
 high_small j n h = highs (eqb j 0) (eqb j 1) (eqb j 2) (eqb j 3) (eqb j 4) (eqb j 5) (eqb n 0) n h
 
-pub line_small : (j n : ℕ) (x : ℤ) → n ≤ 4294967296 → lineSound j n x ≡ true → mag x < 2 ^ 60
+pub line_small : (j n : ℕ) (x : ℤ) → n ≤ 4294967296 → line_sound j n x ≡ true → mag x < 2 ^ 60
 line_small j n x h e =
-    omega (arith, inside-small (lowOf j n) (high_of j n) x (line-parts j n x e).0, low_small j n h, high_small j n h)
+    omega (arith, inside-small (low_of j n) (high_of j n) x (line-parts j n x e).0, low_small j n h, high_small j n h)
 
 -- the samples: at most 2 ^ 32, and not below 0
-pub head-parts : (n : ℕ) (x : ℤ) → lineSound 0 n x ≡ true → (nat_abs x ≤ 4294967296) × (x ≡ pos (nat_abs x))
-unfolding lowOf high_of
+pub head-parts : (n : ℕ) (x : ℤ) → line_sound 0 n x ≡ true → (nat_abs x ≤ 4294967296) × (x ≡ pos (nat_abs x))
+unfolding low_of high_of
 head-parts n (pos a) e = (leb-true a 4294967296 (line-parts 0 n (pos a) e).0, refl)
 head-parts n (negsuc a) e = absurd (omega (arith, ltb-true a 0 (line-parts 0 n (negsuc a) e).0))
 
-pub head-over : (n : ℕ) (x : ℤ) → 4294967296 < nat_abs x → lineSound 0 n x ≡ false
-head-over n x h = go (lineSound 0 n x) refl
+pub head-over : (n : ℕ) (x : ℤ) → 4294967296 < nat_abs x → line_sound 0 n x ≡ false
+head-over n x h = go (line_sound 0 n x) refl
   where
-    go : (t : Bool) → lineSound 0 n x ≡ t → lineSound 0 n x ≡ false
+    go : (t : Bool) → line_sound 0 n x ≡ t → line_sound 0 n x ≡ false
     go true e = absurd (omega (arith, (head-parts n x e).0))
     go false e = e
 
 -- ---- the head of a line in an accepted sheet, and its size
 
-module _ (s : List ℤ) (e : sheetSound s ≡ true) (k : ℕ) (h : k < 20) where
-  pub head-sound : lineSound 0 (samplesOn s k) (line_at s (k / 10 * 10)) ≡ true
+module _ (s : List ℤ) (e : sheet_sound s ≡ true) (k : ℕ) (h : k < 20) where
+  pub head-sound : line_sound 0 (samples_on s k) (line_at s (k / 10 * 10)) ≡ true
   head-sound =
       let q : k / 10 * 10 / 10 * 10 ≡ k / 10 * 10 = omega arith in
       let z : k / 10 * 10 % 10 ≡ 0 = omega arith in
       rw (z, q) at (sound-at s e (k / 10 * 10) (omega arith))
 
-  pub head_small : samplesOn s k ≤ 4294967296
-  head_small = (head-parts (samplesOn s k) (line_at s (k / 10 * 10)) head-sound).0
+  pub head_small : samples_on s k ≤ 4294967296
+  head_small = (head-parts (samples_on s k) (line_at s (k / 10 * 10)) head-sound).0
 
   pub at_small : mag (line_at s k) < 2 ^ 60
-  at_small = line_small (k % 10) (samplesOn s k) (line_at s k) head_small (sound-at s e k h)
+  at_small = line_small (k % 10) (samples_on s k) (line_at s k) head_small (sound-at s e k h)
 
 -- a head too large
-pub head-unsound : (s : List ℤ) (k : ℕ) → k < 20 → 4294967296 < samplesOn s k → sheetSound s ≡ false
+pub head-unsound : (s : List ℤ) (k : ℕ) → k < 20 → 4294967296 < samples_on s k → sheet_sound s ≡ false
 head-unsound s k h l =
     let q : k / 10 * 10 / 10 * 10 ≡ k / 10 * 10 = omega arith in
     let z : k / 10 * 10 % 10 ≡ 0 = omega arith in
-    some-unsound s (k / 10 * 10) (omega arith) (rw (z, q) (ap not (head-over (samplesOn s k) (line_at s (k / 10 * 10)) l)))
+    some-unsound s (k / 10 * 10) (omega arith) (rw (z, q) (ap not (head-over (samples_on s k) (line_at s (k / 10 * 10)) l)))
 
 -- ---- the reach of the lines from 6 on: counts
 
-pub tail-reach : (j n : ℕ) → 6 ≤ j → (lowOf j n ≡ 0) × (high_of j n ≡ n)
-unfolding lowOf high_of
+pub tail-reach : (j n : ℕ) → 6 ≤ j → (low_of j n ≡ 0) × (high_of j n ≡ n)
+unfolding low_of high_of
 tail-reach j n h = (
   rw (ne_eqb j 5 (λ e. omega arith), ne_eqb j 2 (λ e. omega arith), ne_eqb j 3 (λ e. omega arith)),
   rw (

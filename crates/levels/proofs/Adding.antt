@@ -6,9 +6,9 @@ use lib.IntN.{ℤ}
 use lib.ListN.{length}
 use Rattle.answer.specs.Answer.{Answer, Answer.accepted, Answer.refused}
 use Rattle.answer.proofs.Chains.{met, not-both}
-use Rattle.levels.specs.Lines.{sheetJoined, emptySheet}
-use Rattle.levels.specs.Sheets.{Block, sheetOf}
-use Rattle.levels.specs.Calls.{addDemands, addAnswer, and_then, allAdded}
+use Rattle.levels.specs.Lines.{sheet_joined, empty_sheet}
+use Rattle.levels.specs.Sheets.{Block, sheet_of}
+use Rattle.levels.specs.Calls.{add_demands, add_answer, and_then, all_added}
 use Rattle.levels.proofs.Stretches.{sheet-join, sheet-none}
 
 -- what follows an accepted step
@@ -18,22 +18,22 @@ unfolding and_then
 then-parts (accepted v) f w e = (v, refl, e)
 then-parts (refused n p) f w e = not-both e
 
-pub adding : (s : List ℤ) (b : Block) (v : List ℤ) → addAnswer s b ≡ accepted v → v ≡ sheetJoined s (sheetOf (b ∷ []))
-unfolding addAnswer
-adding s b v e = sym (met (sheetJoined s (sheetOf (b ∷ []))) (addDemands s b) e).1
+pub adding : (s : List ℤ) (b : Block) (v : List ℤ) → add_answer s b ≡ accepted v → v ≡ sheet_joined s (sheet_of (b ∷ []))
+unfolding add_answer
+adding s b v e = sym (met (sheet_joined s (sheet_of (b ∷ []))) (add_demands s b) e).1
 
 -- it was a sheet of 20 lines
-pub adding-to : (s : List ℤ) (b : Block) (v : List ℤ) → addAnswer s b ≡ accepted v → length s ≡ 20
-unfolding addAnswer
-adding-to s b v e = eqb-true (length s) 20 (met (sheetJoined s (sheetOf (b ∷ []))) (addDemands s b) e).0.0
+pub adding-to : (s : List ℤ) (b : Block) (v : List ℤ) → add_answer s b ≡ accepted v → length s ≡ 20
+unfolding add_answer
+adding-to s b v e = eqb-true (length s) 20 (met (sheet_joined s (sheet_of (b ∷ []))) (add_demands s b) e).0.0
 
-one-by-one-from : (us vs : List Block) (t : List ℤ) → allAdded (sheetOf us) vs ≡ accepted t → t ≡ sheetOf (us ++ vs)
-unfolding allAdded
+one-by-one-from : (us vs : List Block) (t : List ℤ) → all_added (sheet_of us) vs ≡ accepted t → t ≡ sheet_of (us ++ vs)
+unfolding all_added
 one-by-one-from us [] t e = rw append-nil (cc)
 one-by-one-from us (b ∷ vs) t e =
-    let p = then-parts (addAnswer (sheetOf us) b) (λ next. allAdded next vs) t e in
-    let f : p.0 ≡ sheetOf (us ++ (b ∷ [])) = adding (sheetOf us) b p.0 p.1 ∙ sym (sheet-join us (b ∷ [])) in
-    one-by-one-from (us ++ (b ∷ [])) vs t (rw f at p.2) ∙ ap sheetOf (append_assoc us (b ∷ []) vs)
+    let p = then-parts (add_answer (sheet_of us) b) (λ next. all_added next vs) t e in
+    let f : p.0 ≡ sheet_of (us ++ (b ∷ [])) = adding (sheet_of us) b p.0 p.1 ∙ sym (sheet-join us (b ∷ [])) in
+    one-by-one-from (us ++ (b ∷ [])) vs t (rw f at p.2) ∙ ap sheet_of (append_assoc us (b ∷ []) vs)
 
-pub one_by_one : (bs : List Block) (t : List ℤ) → allAdded emptySheet bs ≡ accepted t → t ≡ sheetOf bs
+pub one_by_one : (bs : List Block) (t : List ℤ) → all_added empty_sheet bs ≡ accepted t → t ≡ sheet_of bs
 one_by_one bs t e = one-by-one-from [] bs t (rw sheet-none e)

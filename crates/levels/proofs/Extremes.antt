@@ -14,27 +14,27 @@ use Rattle.bits.specs.Pick.{pick}
 use Rattle.bits.proofs.Tests.{pick-cases, no-yes}
 use Rattle.subframe.specs.Signed.{in_range}
 use Rattle.levels.specs.Lines.{least, most, both, inside}
-use Rattle.levels.specs.Sheets.{ofOne, ofSamples}
-use Rattle.levels.specs.Inner.{magnitudeOf}
+use Rattle.levels.specs.Sheets.{of_one, of_samples}
+use Rattle.levels.specs.Inner.{magnitude_of}
 use Rattle.levels.proofs.Wholes.{le-self, le-turn, le_then, least-left, least-right, most-left, most-right}
 use Rattle.levels.proofs.Wholes.{most-above, most-below, most-turn, most-assoc}
 
 -- every sample lies between the smallest and the largest
 pub between : (xs : List ℤ) (i : ℕ) → i < length xs
-    → (le_z (ofSamples 2 xs) (get_or xs i (pos 0)) ≡ true) × (le_z (get_or xs i (pos 0)) (ofSamples 3 xs) ≡ true)
-unfolding ofSamples ofOne both
+    → (le_z (of_samples 2 xs) (get_or xs i (pos 0)) ≡ true) × (le_z (get_or xs i (pos 0)) (of_samples 3 xs) ≡ true)
+unfolding of_samples of_one both
 between [] i h = absurd (omega arith)
 between (x ∷ []) zero h = (le-self x, le-self x)
 between (x ∷ []) (suc i) h = absurd (omega arith)
-between (x ∷ y ∷ ys) zero h = (least-left x (ofSamples 2 (y ∷ ys)), most-left x (ofSamples 3 (y ∷ ys)))
+between (x ∷ y ∷ ys) zero h = (least-left x (of_samples 2 (y ∷ ys)), most-left x (of_samples 3 (y ∷ ys)))
 between (x ∷ y ∷ ys) (suc i) h =
     let r = between (y ∷ ys) i (omega arith) in (
-      le_then (least x (ofSamples 2 (y ∷ ys))) (ofSamples 2 (y ∷ ys)) (get_or (y ∷ ys) i (pos 0)) (least-right x (ofSamples 2 (y ∷ ys))) r.0,
-      le_then (get_or (y ∷ ys) i (pos 0)) (ofSamples 3 (y ∷ ys)) (most x (ofSamples 3 (y ∷ ys))) r.1 (most-right x (ofSamples 3 (y ∷ ys))),
+      le_then (least x (of_samples 2 (y ∷ ys))) (of_samples 2 (y ∷ ys)) (get_or (y ∷ ys) i (pos 0)) (least-right x (of_samples 2 (y ∷ ys))) r.0,
+      le_then (get_or (y ∷ ys) i (pos 0)) (of_samples 3 (y ∷ ys)) (most x (of_samples 3 (y ∷ ys))) r.1 (most-right x (of_samples 3 (y ∷ ys))),
     )
 
-pub in_order : (xs : List ℤ) → 0 < length xs → le_z (ofSamples 2 xs) (ofSamples 3 xs) ≡ true
-in_order xs h = let r = between xs 0 h in le_then (ofSamples 2 xs) (get_or xs 0 (pos 0)) (ofSamples 3 xs) r.0 r.1
+pub in_order : (xs : List ℤ) → 0 < length xs → le_z (of_samples 2 xs) (of_samples 3 xs) ≡ true
+in_order xs h = let r = between xs 0 h in le_then (of_samples 2 xs) (get_or xs 0 (pos 0)) (of_samples 3 xs) r.0 r.1
 
 -- and each of them is a sample
 abbrev Among : List ℤ → ℤ → Type 0
@@ -46,13 +46,13 @@ here x xs = (0, omega arith, refl)
 further : (x : ℤ) (xs : List ℤ) (z : ℤ) → Among xs z → Among (x ∷ xs) z
 further x xs z a = (suc a.0, omega (arith, a.1), a.2)
 
-pub extremes-among : (xs : List ℤ) → 0 < length xs → Among xs (ofSamples 2 xs) × Among xs (ofSamples 3 xs)
-unfolding ofSamples ofOne both
+pub extremes-among : (xs : List ℤ) → 0 < length xs → Among xs (of_samples 2 xs) × Among xs (of_samples 3 xs)
+unfolding of_samples of_one both
 extremes-among [] h = absurd (omega arith)
 extremes-among (x ∷ []) h = (here x [], here x [])
 extremes-among (x ∷ y ∷ ys) h =
-    let l = ofSamples 2 (y ∷ ys) in
-    let m = ofSamples 3 (y ∷ ys) in
+    let l = of_samples 2 (y ∷ ys) in
+    let m = of_samples 3 (y ∷ ys) in
     let r = extremes-among (y ∷ ys) (omega arith) in (
       pick-cases (Among (x ∷ y ∷ ys)) (le_z x l) x l (λ t. here x (y ∷ ys)) (λ t. further x (y ∷ ys) l r.0),
       pick-cases (Among (x ∷ y ∷ ys)) (le_z x m) m x (λ t. further x (y ∷ ys) m r.1) (λ t. here x (y ∷ ys)),
@@ -70,11 +70,11 @@ pub inside-range : (x : ℤ) → inside 8388608 8388607 x ≡ true → in_range 
 inside-range (pos n) e = lt-ltb n 8388608 (omega (arith, leb-true n 8388607 e))
 inside-range (negsuc n) e = e
 
-pub all-in-range : (xs : List ℤ) → in_range 24 (ofSamples 2 xs) ≡ true → in_range 24 (ofSamples 3 xs) ≡ true
+pub all-in-range : (xs : List ℤ) → in_range 24 (of_samples 2 xs) ≡ true → in_range 24 (of_samples 3 xs) ≡ true
     → (i : ℕ) → i < length xs → in_range 24 (get_or xs i (pos 0)) ≡ true
 all-in-range xs p q i h =
     let r = between xs i h in
-    range-between (ofSamples 2 xs) (get_or xs i (pos 0)) (ofSamples 3 xs) r.0 r.1 p q
+    range-between (of_samples 2 xs) (get_or xs i (pos 0)) (of_samples 3 xs) r.0 r.1 p q
 
 -- ---- the magnitude
 
@@ -99,7 +99,7 @@ module _ (x l m : ℤ) (le : le_z l m ≡ true) where
   abbrev M : ℤ
   M = size m
 
-  more_by : (s t : Bool) → le_z x l ≡ s → le_z x m ≡ t → most X (most L M) ≡ magnitudeOf (least x l) (most x m)
+  more_by : (s t : Bool) → le_z x l ≡ s → le_z x m ≡ t → most X (most L M) ≡ magnitude_of (least x l) (most x m)
   more_by true true e f =
       rw (e, f)
       (⊎_elim (λ (n : le_z L X ≡ true). sym (most-assoc X L M) ∙ ap (λ (z : ℤ). most z M) (most-below X L n))
@@ -116,12 +116,12 @@ module _ (x l m : ℤ) (le : le_z l m ≡ true) where
       (λ (n : le_z M X ≡ true). most-turn X (most L M) ∙ most-assoc L M X ∙ ap (most L) (most-above M X n))
       (nearer l m x le (le-turn x m f)))
 
-pub magnitude-of-extremes : (xs : List ℤ) → 0 < length xs → ofSamples 4 xs ≡ magnitudeOf (ofSamples 2 xs) (ofSamples 3 xs)
-unfolding ofSamples ofOne both
+pub magnitude-of-extremes : (xs : List ℤ) → 0 < length xs → of_samples 4 xs ≡ magnitude_of (of_samples 2 xs) (of_samples 3 xs)
+unfolding of_samples of_one both
 magnitude-of-extremes [] h = absurd (omega arith)
 magnitude-of-extremes (x ∷ []) h = sym (most-above (size x) (size x) (le-self (size x)))
 magnitude-of-extremes (x ∷ y ∷ ys) h =
-    let l = ofSamples 2 (y ∷ ys) in
-    let m = ofSamples 3 (y ∷ ys) in
+    let l = of_samples 2 (y ∷ ys) in
+    let m = of_samples 3 (y ∷ ys) in
     ap (most (size x)) (magnitude-of-extremes (y ∷ ys) (omega arith))
     ∙ more_by x l m (in_order (y ∷ ys) (omega arith)) (le_z x l) (le_z x m) refl refl

@@ -18,94 +18,94 @@ use Rattle.bits.proofs.Digits.{digit_lt}
 use Rattle.bits.proofs.Rows.{length-bits}
 use Rattle.answer.proofs.Chains.{search-cases}
 use Rattle.subframe.specs.Signed.{in_range}
-use Rattle.block.specs.Side.{columns, columnLength, sideLength, columnIn, columnRow}
+use Rattle.block.specs.Side.{columns, column_length, side_length, column_in, column_row}
 use Rattle.block.specs.Check.{outside}
-use Rattle.block.proofs.SideLaws.{getD-columnIn, length-columnIn}
+use Rattle.block.proofs.SideLaws.{get_or-column_in, length-column_in}
 use Rattle.block.proofs.Frames.{row-none, row_next, outside-is}
 use Rattle.levels.specs.Lines.{least, most, both}
-use Rattle.levels.specs.Sheets.{Block, channelSamples, samplesIn, atEnd, ofOne, ofSamples, framesSet, ofSide, ofSides, lineIn, sheetOf}
-use Rattle.levels.specs.Calls.{Fit, asBlock}
-use Rattle.levels.specs.Inner.{figuresOf, block_lines}
+use Rattle.levels.specs.Sheets.{Block, channel_samples, samples_in, at_end, of_one, of_samples, frames_set, of_side, of_sides, line_in, sheet_of}
+use Rattle.levels.specs.Calls.{Fit, as_block}
+use Rattle.levels.specs.Inner.{figures_of, block_lines}
 use Rattle.levels.proofs.Stretches.{folded-join, folded-samples, length-channel}
 use Rattle.levels.proofs.Blocks.{channel-at, samples-one, counted-one}
 use Rattle.levels.proofs.Extremes.{all-in-range, magnitude-of-extremes}
 
 -- ---- samples, from the first on
 
-folded-one : (j : ℕ) (x : ℤ) → ofSamples j (x ∷ []) ≡ ofOne j x
-unfolding ofSamples
+folded-one : (j : ℕ) (x : ℤ) → of_samples j (x ∷ []) ≡ of_one j x
+unfolding of_samples
 folded-one j x = refl
 
-pass-first : (j : ℕ) (xs : List ℤ) → 0 < length xs → ofSamples j (take 1 xs) ≡ ofOne j (get_or xs 0 (pos 0))
+pass-first : (j : ℕ) (xs : List ℤ) → 0 < length xs → of_samples j (take 1 xs) ≡ of_one j (get_or xs 0 (pos 0))
 pass-first j [] h = absurd (omega arith)
 pass-first j (x ∷ xs) h = folded-one j x
 
-ends-natural : (xs : List ℤ) → ofSamples 6 xs ≡ pos (nat_abs (ofSamples 6 xs))
-unfolding ofSamples ofOne both
+ends-natural : (xs : List ℤ) → of_samples 6 xs ≡ pos (nat_abs (of_samples 6 xs))
+unfolding of_samples of_one both
 ends-natural [] = refl
 ends-natural (x ∷ []) = refl
 ends-natural (x ∷ y ∷ ys) = rw (ends-natural (y ∷ ys))
 
-unmarked-by : (xs : List ℤ) → 0 < length xs → ofSamples 1 xs ≡ pos 0
-unfolding ofSamples ofOne both
+unmarked-by : (xs : List ℤ) → 0 < length xs → of_samples 1 xs ≡ pos 0
+unfolding of_samples of_one both
 unmarked-by [] h = absurd (omega arith)
 unmarked-by (x ∷ []) h = refl
 unmarked-by (x ∷ y ∷ ys) h = rw (unmarked-by (y ∷ ys) (omega arith))
 
 module _ (xs : List ℤ) (i : ℕ) (some : 0 < i) (h : i < length xs) where
-  pass-next : (j : ℕ) → ofSamples j (take (i + 1) xs) ≡ both j (ofSamples j (take i xs)) (ofOne j (get_or xs i (pos 0)))
+  pass-next : (j : ℕ) → of_samples j (take (i + 1) xs) ≡ both j (of_samples j (take i xs)) (of_one j (get_or xs i (pos 0)))
   pass-next j =
       rw (add-one i, take-suc xs i (pos 0) h)
       (folded-join j (take i xs) (get_or xs i (pos 0) ∷ []) (omega (arith, length-take-le i xs (omega arith))) (omega arith)
-      ∙ ap (both j (ofSamples j (take i xs))) (folded-one j (get_or xs i (pos 0))))
+      ∙ ap (both j (of_samples j (take i xs))) (folded-one j (get_or xs i (pos 0))))
 
-  pub smallest-next : ofSamples 2 (take (i + 1) xs) ≡ least (ofSamples 2 (take i xs)) (get_or xs i (pos 0))
-  unfolding both ofOne
+  pub smallest-next : of_samples 2 (take (i + 1) xs) ≡ least (of_samples 2 (take i xs)) (get_or xs i (pos 0))
+  unfolding both of_one
   smallest-next = pass-next 2
 
-  pub largest-next : ofSamples 3 (take (i + 1) xs) ≡ most (ofSamples 3 (take i xs)) (get_or xs i (pos 0))
-  unfolding both ofOne
+  pub largest-next : of_samples 3 (take (i + 1) xs) ≡ most (of_samples 3 (take i xs)) (get_or xs i (pos 0))
+  unfolding both of_one
   largest-next = pass-next 3
 
-  pub sum-next : ofSamples 5 (take (i + 1) xs) ≡ ofSamples 5 (take i xs) +ℤ get_or xs i (pos 0)
-  unfolding both ofOne
+  pub sum-next : of_samples 5 (take (i + 1) xs) ≡ of_samples 5 (take i xs) +ℤ get_or xs i (pos 0)
+  unfolding both of_one
   sum-next = pass-next 5
 
-  pub ends_next : nat_abs (ofSamples 6 (take (i + 1) xs)) ≡ nat_abs (ofSamples 6 (take i xs)) + digit (atEnd (get_or xs i (pos 0)))
-  unfolding both ofOne
+  pub ends_next : nat_abs (of_samples 6 (take (i + 1) xs)) ≡ nat_abs (of_samples 6 (take i xs)) + digit (at_end (get_or xs i (pos 0)))
+  unfolding both of_one
   ends_next = rw (pass-next 6, ends-natural (take i xs))
 
 module _ (xs : List ℤ) (some : 0 < length xs) where
-  pub smallest-first : ofSamples 2 (take 1 xs) ≡ get_or xs 0 (pos 0)
-  unfolding ofOne
+  pub smallest-first : of_samples 2 (take 1 xs) ≡ get_or xs 0 (pos 0)
+  unfolding of_one
   smallest-first = pass-first 2 xs some
 
-  pub largest-first : ofSamples 3 (take 1 xs) ≡ get_or xs 0 (pos 0)
-  unfolding ofOne
+  pub largest-first : of_samples 3 (take 1 xs) ≡ get_or xs 0 (pos 0)
+  unfolding of_one
   largest-first = pass-first 3 xs some
 
-  pub sum_first : ofSamples 5 (take 1 xs) ≡ get_or xs 0 (pos 0)
-  unfolding ofOne
+  pub sum_first : of_samples 5 (take 1 xs) ≡ get_or xs 0 (pos 0)
+  unfolding of_one
   sum_first = pass-first 5 xs some
 
-  pub ends-first : nat_abs (ofSamples 6 (take 1 xs)) ≡ digit (atEnd (get_or xs 0 (pos 0)))
-  unfolding ofOne
+  pub ends-first : nat_abs (of_samples 6 (take 1 xs)) ≡ digit (at_end (get_or xs 0 (pos 0)))
+  unfolding of_one
   ends-first = ap nat_abs (pass-first 6 xs some)
 
 -- ---- samples of both channels whose extremes are in range
 
 fit-by : (samples : List ℤ)
-    → ((c : ℕ) → c < 2 → (in_range 24 (ofSamples 2 (channelSamples c samples)) ≡ true) × (in_range 24 (ofSamples 3 (channelSamples c samples)) ≡ true))
+    → ((c : ℕ) → c < 2 → (in_range 24 (of_samples 2 (channel_samples c samples)) ≡ true) × (in_range 24 (of_samples 3 (channel_samples c samples)) ≡ true))
     → Fit samples
 fit-by samples both i h =
     let e : 2 * (i / 2) + i % 2 ≡ i = omega arith in
     let r = both (i % 2) (omega arith) in
-    let q = all-in-range (channelSamples (i % 2) samples) r.0 r.1 (i / 2) (omega (arith, length-channel (i % 2) samples)) in
+    let q = all-in-range (channel_samples (i % 2) samples) r.0 r.1 (i / 2) (omega (arith, length-channel (i % 2) samples)) in
     let g = channel-at (i % 2) samples (i / 2) (omega arith) ∙ ap (λ (k : ℕ). get_or samples k (pos 0)) e in
     outside-is samples i ∙ ap not (sym (ap (in_range 24) g) ∙ q)
 
 pub none-outside : (samples : List ℤ)
-    → ((c : ℕ) → c < 2 → (in_range 24 (ofSamples 2 (channelSamples c samples)) ≡ true) × (in_range 24 (ofSamples 3 (channelSamples c samples)) ≡ true))
+    → ((c : ℕ) → c < 2 → (in_range 24 (of_samples 2 (channel_samples c samples)) ≡ true) × (in_range 24 (of_samples 3 (channel_samples c samples)) ≡ true))
     → 384 ≡ first (outside samples) 0 384 (λ i. i) 384
 none-outside samples both =
     search-cases (outside samples) (λ i. i) 384 0 384 (λ (x : ℕ). 384 ≡ x)
@@ -116,40 +116,40 @@ none-outside samples both =
 pub ones-le : (x : ℕ) → x < 256 → ones x ≤ 8
 ones-le x h = omega (arith, count_ones 8 x h, count-le (bits 8 x), length-bits 8 x)
 
-row_count : (x : ℕ) (xs : List ℕ) → x < 256 → count (columnRow (x ∷ xs)) ≡ ones x + count (columnRow xs)
+row_count : (x : ℕ) (xs : List ℕ) → x < 256 → count (column_row (x ∷ xs)) ≡ ones x + count (column_row xs)
 row_count x xs h =
-    ap count (row_next x xs) ∙ count-append (bits 8 x) (columnRow xs) ∙ ap (λ (n : ℕ). n + count (columnRow xs)) (count_ones 8 x h)
+    ap count (row_next x xs) ∙ count-append (bits 8 x) (column_row xs) ∙ ap (λ (n : ℕ). n + count (column_row xs)) (count_ones 8 x h)
 
-count_none : count (columnRow []) ≡ 0
+count_none : count (column_row []) ≡ 0
 unfolding count
 count_none = rw row-none
 
-module _ (side : List ℕ) (column : ℕ) (n : length side ≡ sideLength) (c : column < 2 * columns) where
+module _ (side : List ℕ) (column : ℕ) (n : length side ≡ side_length) (c : column < 2 * columns) where
   abbrev pub left : ℕ → ℕ
-  left i = count (columnRow (drop i (columnIn side column)))
+  left i = count (column_row (drop i (column_in side column)))
 
-  pub column-all : left 0 ≡ framesSet column side
-  unfolding framesSet
+  pub column-all : left 0 ≡ frames_set column side
+  unfolding frames_set
   column-all = refl
 
-  pub column-step : (i x : ℕ) → i < columnLength → x ≡ get_or side (columnLength * column + i) 0 → x < 256 → left i ≡ ones x + left (i + 1)
+  pub column-step : (i x : ℕ) → i < column_length → x ≡ get_or side (column_length * column + i) 0 → x < 256 → left i ≡ ones x + left (i + 1)
   column-step i x h q l =
-      let g : get_or (columnIn side column) i 0 ≡ x = getD-columnIn side column i h ∙ sym q in
-      rw (add-one i, drop-cons (columnIn side column) i 0 (omega (arith, length-columnIn side n column c)), g)
-      (row_count x (drop (suc i) (columnIn side column)) l)
+      let g : get_or (column_in side column) i 0 ≡ x = get_or-column_in side column i h ∙ sym q in
+      rw (add-one i, drop-cons (column_in side column) i 0 (omega (arith, length-column_in side n column c)), g)
+      (row_count x (drop (suc i) (column_in side column)) l)
 
-  pub column-done : (i : ℕ) → columnLength ≤ i → left i ≡ 0
+  pub column-done : (i : ℕ) → column_length ≤ i → left i ≡ 0
   column-done i h =
-      rw (drop_of_length-le (columnIn side column) {i = i} (omega (arith, length-columnIn side n column c))) count_none
+      rw (drop_of_length-le (column_in side column) {i = i} (omega (arith, length-column_in side n column c))) count_none
 
 -- ---- the sheet of one block
 
 module _ (samples : List ℤ) (side : List ℕ) where
   abbrev b : Block
-  b = asBlock samples side
+  b = as_block samples side
 
-  pub block-laid : block_lines (figuresOf (channelSamples 0 samples)) (figuresOf (channelSamples 1 samples)) side ≡ sheetOf (asBlock samples side ∷ [])
-  unfolding sheetOf listed
+  pub block-laid : block_lines (figures_of (channel_samples 0 samples)) (figures_of (channel_samples 1 samples)) side ≡ sheet_of (as_block samples side ∷ [])
+  unfolding sheet_of listed
   block-laid =
       rw (
         samples-one 0 b,
@@ -160,14 +160,14 @@ module _ (samples : List ℤ) (side : List ℕ) where
         counted-one 7 1 b,
         counted-one 8 1 b,
         counted-one 9 1 b,
-        folded-samples (channelSamples 0 samples),
-        folded-samples (channelSamples 1 samples),
+        folded-samples (channel_samples 0 samples),
+        folded-samples (channel_samples 1 samples),
         length-channel 0 samples,
         length-channel 1 samples,
-        magnitude-of-extremes (channelSamples 0 samples) (omega (arith, length-channel 0 samples)),
-        magnitude-of-extremes (channelSamples 1 samples) (omega (arith, length-channel 1 samples)),
-        ← ends-natural (channelSamples 0 samples),
-        ← ends-natural (channelSamples 1 samples),
-        unmarked-by (channelSamples 0 samples) (omega (arith, length-channel 0 samples)),
-        unmarked-by (channelSamples 1 samples) (omega (arith, length-channel 1 samples)),
+        magnitude-of-extremes (channel_samples 0 samples) (omega (arith, length-channel 0 samples)),
+        magnitude-of-extremes (channel_samples 1 samples) (omega (arith, length-channel 1 samples)),
+        ← ends-natural (channel_samples 0 samples),
+        ← ends-natural (channel_samples 1 samples),
+        unmarked-by (channel_samples 0 samples) (omega (arith, length-channel 0 samples)),
+        unmarked-by (channel_samples 1 samples) (omega (arith, length-channel 1 samples)),
       )

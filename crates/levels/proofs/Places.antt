@@ -7,33 +7,33 @@ use lib.IntN.{ℤ, pos}
 use lib.ListN.{length, get_or, take, drop}
 use lib.Seq.{length-take-le, get_or-append-add, get_or-drop}
 use Rattle.bits.proofs.Filling.{over}
-use Rattle.bits.proofs.Lists.{length-listed, getD-listed}
-use Rattle.levels.specs.Lines.{line_at, sheetJoined, joinedAt, emptySheet, emptyLine}
-use Rattle.levels.specs.Sheets.{Block, sheetOf, lineIn}
+use Rattle.bits.proofs.Lists.{length-listed, get_or-listed}
+use Rattle.levels.specs.Lines.{line_at, sheet_joined, joined_at, empty_sheet, empty_line}
+use Rattle.levels.specs.Sheets.{Block, sheet_of, line_in}
 
-pub length-joined : (a b : List ℤ) → length (sheetJoined a b) ≡ 20
-unfolding sheetJoined
-length-joined a b = length-listed 0 20 (joinedAt a b)
+pub length-joined : (a b : List ℤ) → length (sheet_joined a b) ≡ 20
+unfolding sheet_joined
+length-joined a b = length-listed 0 20 (joined_at a b)
 
-pub at_joined : (a b : List ℤ) (k : ℕ) → k < 20 → line_at (sheetJoined a b) k ≡ joinedAt a b k
-unfolding sheetJoined
-at_joined a b k h = getD-listed 20 (joinedAt a b) k (pos 0) h
+pub at_joined : (a b : List ℤ) (k : ℕ) → k < 20 → line_at (sheet_joined a b) k ≡ joined_at a b k
+unfolding sheet_joined
+at_joined a b k h = get_or-listed 20 (joined_at a b) k (pos 0) h
 
-pub length-empty : length emptySheet ≡ 20
-unfolding emptySheet
-length-empty = length-listed 0 20 (λ k. emptyLine (k % 10))
+pub length-empty : length empty_sheet ≡ 20
+unfolding empty_sheet
+length-empty = length-listed 0 20 (λ k. empty_line (k % 10))
 
-pub at-empty : (k : ℕ) → k < 20 → line_at emptySheet k ≡ emptyLine (k % 10)
-unfolding emptySheet
-at-empty k h = getD-listed 20 (λ k. emptyLine (k % 10)) k (pos 0) h
+pub at-empty : (k : ℕ) → k < 20 → line_at empty_sheet k ≡ empty_line (k % 10)
+unfolding empty_sheet
+at-empty k h = get_or-listed 20 (λ k. empty_line (k % 10)) k (pos 0) h
 
-pub length-sheet : (bs : List Block) → length (sheetOf bs) ≡ 20
-unfolding sheetOf
-length-sheet bs = length-listed 0 20 (lineIn bs)
+pub length-sheet : (bs : List Block) → length (sheet_of bs) ≡ 20
+unfolding sheet_of
+length-sheet bs = length-listed 0 20 (line_in bs)
 
-pub at-sheet : (bs : List Block) (k : ℕ) → k < 20 → line_at (sheetOf bs) k ≡ lineIn bs k
-unfolding sheetOf
-at-sheet bs k h = getD-listed 20 (lineIn bs) k (pos 0) h
+pub at-sheet : (bs : List Block) (k : ℕ) → k < 20 → line_at (sheet_of bs) k ≡ line_in bs k
+unfolding sheet_of
+at-sheet bs k h = get_or-listed 20 (line_in bs) k (pos 0) h
 
 -- what is not filled yet is as it was
 pub over-kept : (n : ℕ) (new old : List ℤ) (i : ℕ) → n ≤ length new → n ≤ i → line_at (over n new old) i ≡ line_at old i

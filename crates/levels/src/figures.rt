@@ -5,8 +5,8 @@ ghost use Rattle.bits.specs.Pick.{first};
 ghost use Rattle.bits.specs.Row.{digit};
 ghost use Rattle.block.specs.Check.{outside};
 ghost use Rattle.levels.specs.Lines.{most};
-ghost use Rattle.levels.specs.Sheets.{atEnd, channelSamples};
-ghost use Rattle.levels.specs.Inner.{figuresOf, Small};
+ghost use Rattle.levels.specs.Sheets.{at_end, channel_samples};
+ghost use Rattle.levels.specs.Inner.{figures_of, Small};
 
 use crate::numbers;
 
@@ -21,7 +21,7 @@ pub(crate) struct Figures {
 
 // 1 for a sample at either end of the range, else 0.
 fn at_end(x: i32) -> u32
-    ensures { result ≡ digit (atEnd x) }
+    ensures { result ≡ digit (at_end x) }
 {
     if x == 8388607 {
         return 1;
@@ -54,7 +54,7 @@ fn grown(smallest: i64, largest: i64, x: i64) -> i64
 // One pass over a channel's samples, in range or not.
 pub(crate) fn gather(samples: &[i32], c: usize) -> Figures
     requires { (length samples.now ≡ 384) × (c < 2) }
-    ensures value { result ≡ figuresOf (channelSamples c samples.now) }
+    ensures value { result ≡ figures_of (channel_samples c samples.now) }
     ensures small { Small result }
 {
     let first = samples[c];
@@ -100,7 +100,7 @@ fn search(samples: &[i32]) -> usize
 
 // The same where the figures of both channels are known: a search only if one of the extremes is out of range.
 pub(crate) fn first_outside(samples: &[i32], a: Figures, b: Figures) -> usize
-    requires { (length samples.now ≡ 384) × (a ≡ figuresOf (channelSamples 0 samples.now)) × (b ≡ figuresOf (channelSamples 1 samples.now)) }
+    requires { (length samples.now ≡ 384) × (a ≡ figures_of (channel_samples 0 samples.now)) × (b ≡ figures_of (channel_samples 1 samples.now)) }
     ensures { result ≡ first (outside samples.now) 0 384 (λ i. i) 384 }
 {
     if numbers::within(8388608, 8388607, a.smallest) {

@@ -1,7 +1,7 @@
 // Two sheets joined, line by line.
 ghost use Rattle.std.specs.Prelude.{◌≡◌, true, ◌<◌, ◌^◌, length};
 ghost use Rattle.std.specs.Int.Signed.{mag};
-ghost use Rattle.levels.specs.Lines.{both, joinedLine, sheetSound, sheetJoined};
+ghost use Rattle.levels.specs.Lines.{both, joined_line, sheet_sound, sheet_joined};
 
 use crate::{judging, numbers};
 
@@ -25,7 +25,7 @@ fn of_both(kind: usize, x: i64, y: i64) -> i64
 // Line j of two stretches of m and n samples.
 fn line(j: usize, m: u64, n: u64, x: i64, y: i64) -> i64
     requires { (mag x < 2 ^ 60) × (mag y < 2 ^ 60) }
-    ensures { result ≡ joinedLine j m n x y }
+    ensures { result ≡ joined_line j m n x y }
 {
     if m == 0 {
         return y;
@@ -38,8 +38,8 @@ fn line(j: usize, m: u64, n: u64, x: i64, y: i64) -> i64
 
 // Joins line by line. The samples of both are read before a channel's lines are written.
 pub(crate) fn join_lines(sheet: &mut [i64], later: &[i64])
-    requires { (length sheet.old ≡ 20) × (length later.now ≡ 20) × (sheetSound sheet.old ≡ true) × (sheetSound later.now ≡ true) }
-    ensures { sheet.new ≡ sheetJoined sheet.old later.now }
+    requires { (length sheet.old ≡ 20) × (length later.now ≡ 20) × (sheet_sound sheet.old ≡ true) × (sheet_sound later.now ≡ true) }
+    ensures { sheet.new ≡ sheet_joined sheet.old later.now }
 {
     let mut c: usize = 0;
     while c < 2 {

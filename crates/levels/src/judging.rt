@@ -1,13 +1,13 @@
 // Which sheets are accepted: how far each line may reach, and whether a channel has room for more samples.
 ghost use Rattle.std.specs.Prelude.{◌≡◌, ◌&&◌, ◌<◌, ◌≤◌, ◌^◌, nat_abs, length};
-ghost use Rattle.levels.specs.Lines.{ifSome, lowOf, high_of, lineSound, line_at, sheetSound};
-ghost use Rattle.levels.specs.Calls.{hasRoom};
+ghost use Rattle.levels.specs.Lines.{if_some, low_of, high_of, line_sound, line_at, sheet_sound};
+ghost use Rattle.levels.specs.Calls.{has_room};
 
 use crate::numbers;
 
 // A bound that is 0 where there are no samples.
 fn if_some(n: u64, bound: u64) -> u64
-    ensures { result ≡ ifSome n bound }
+    ensures { result ≡ if_some n bound }
 {
     if n == 0 {
         return 0;
@@ -18,7 +18,7 @@ fn if_some(n: u64, bound: u64) -> u64
 // How far line j of a channel of n samples reaches below 0.
 fn low_of(j: usize, n: u64) -> u64
     requires { n ≤ 2 ^ 32 }
-    ensures { result ≡ lowOf j n }
+    ensures { result ≡ low_of j n }
 {
     if j == 5 {
         return 8388608 * n;
@@ -64,7 +64,7 @@ fn high_of(j: usize, n: u64) -> u64
 // Whether line j of a channel of n samples may be x.
 fn sound_line(j: usize, n: u64, x: i64) -> bool
     requires { n ≤ 2 ^ 32 }
-    ensures { result ≡ lineSound j n x }
+    ensures { result ≡ line_sound j n x }
 {
     let low = low_of(j, n);
     let high = high_of(j, n);
@@ -92,7 +92,7 @@ pub(crate) fn line_at(sheet: &[i64], k: usize) -> u64
 // Whether a sheet is accepted: channel by channel, so that a line's number is known where it is judged.
 pub(crate) fn sound_sheet(sheet: &[i64]) -> bool
     requires { length sheet.now ≡ 20 }
-    ensures { result ≡ sheetSound sheet.now }
+    ensures { result ≡ sheet_sound sheet.now }
 {
     let mut c: usize = 0;
     while c < 2 {
@@ -117,7 +117,7 @@ pub(crate) fn sound_sheet(sheet: &[i64]) -> bool
 // Whether the channel whose samples stand at line k has room for n more.
 fn has_room(sheet: &[i64], k: usize, n: u64) -> bool
     requires { k < length sheet.now }
-    ensures { result ≡ hasRoom sheet.now k n }
+    ensures { result ≡ has_room sheet.now k n }
 {
     if 0x1_0000_0000 < n {
         return false;
@@ -128,7 +128,7 @@ fn has_room(sheet: &[i64], k: usize, n: u64) -> bool
 // Whether both channels have room: A for a samples more, B for b.
 pub(crate) fn have_room(sheet: &[i64], a: u64, b: u64) -> bool
     requires { length sheet.now ≡ 20 }
-    ensures { result ≡ (hasRoom sheet.now 0 a && hasRoom sheet.now 10 b) }
+    ensures { result ≡ (has_room sheet.now 0 a && has_room sheet.now 10 b) }
 {
     if has_room(sheet, 0, a) {
         return has_room(sheet, 10, b);
@@ -139,7 +139,7 @@ pub(crate) fn have_room(sheet: &[i64], a: u64, b: u64) -> bool
 // Whether both have room for a block more.
 pub(crate) fn room_for_block(sheet: &[i64]) -> bool
     requires { length sheet.now ≡ 20 }
-    ensures { result ≡ (hasRoom sheet.now 0 192 && hasRoom sheet.now 10 192) }
+    ensures { result ≡ (has_room sheet.now 0 192 && has_room sheet.now 10 192) }
 {
     have_room(sheet, 192, 192)
 }

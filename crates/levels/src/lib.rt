@@ -1,10 +1,10 @@
 // The level sheet: two channels of ten numbers, started, added to and joined.
 ghost use Rattle.std.specs.Prelude.{◌≡◌, ◌&&◌, eqb};
 ghost use Rattle.answer.specs.Answer.{verdict};
-ghost use Rattle.answer.specs.Said.{verdictSaid};
-ghost use Rattle.block.specs.Side.{sideLength};
-ghost use Rattle.levels.specs.Lines.{emptyLine};
-ghost use Rattle.levels.specs.Calls.{asBlock, startAnswer, startLeft, joinAnswer, joinLeft, addAnswer, addLeft};
+ghost use Rattle.answer.specs.Said.{verdict_said};
+ghost use Rattle.block.specs.Side.{side_length};
+ghost use Rattle.levels.specs.Lines.{empty_line};
+ghost use Rattle.levels.specs.Calls.{as_block, start_answer, start_left, join_answer, join_left, add_answer, add_left};
 
 mod figures;
 mod joined;
@@ -16,7 +16,7 @@ use answer::Verdict;
 
 // Line j with no samples.
 fn empty_line(line: usize) -> i64
-    ensures { result ≡ emptyLine line }
+    ensures { result ≡ empty_line line }
 {
     if line == 1 {
         return 1;
@@ -26,8 +26,8 @@ fn empty_line(line: usize) -> i64
 
 // The sheet of no blocks: refusal 1 unless it has 20 lines.
 pub fn start(sheet: &mut [i64]) -> Verdict
-    ensures result_value { verdictSaid result ≡ verdict (startAnswer sheet.old) }
-    ensures sheet_after { sheet.new ≡ startLeft sheet.old }
+    ensures result_value { verdict_said result ≡ verdict (start_answer sheet.old) }
+    ensures sheet_after { sheet.new ≡ start_left sheet.old }
 {
     if sheet.len() != 20 {
         return Verdict::Refused {
@@ -46,8 +46,8 @@ pub fn start(sheet: &mut [i64]) -> Verdict
 
 // The sheet of two stretches, in place of that of the first: refusals 1, 2 and 22.
 pub fn join(sheet: &mut [i64], later: &[i64]) -> Verdict
-    ensures result_value { verdictSaid result ≡ verdict (joinAnswer sheet.old later.now) }
-    ensures sheet_after { sheet.new ≡ joinLeft sheet.old later.now }
+    ensures result_value { verdict_said result ≡ verdict (join_answer sheet.old later.now) }
+    ensures sheet_after { sheet.new ≡ join_left sheet.old later.now }
 {
     if sheet.len() != 20 {
         return Verdict::Refused {
@@ -83,7 +83,7 @@ pub fn join(sheet: &mut [i64], later: &[i64]) -> Verdict
 
 // Whether these are the lengths of a sheet, of a block's samples and of its side table.
 fn are_lengths(lines: usize, samples: usize, side: usize) -> bool
-    ensures { result ≡ (eqb lines 20 && eqb samples 384 && eqb side sideLength) }
+    ensures { result ≡ (eqb lines 20 && eqb samples 384 && eqb side side_length) }
 {
     if lines != 20 {
         return false;
@@ -96,8 +96,8 @@ fn are_lengths(lines: usize, samples: usize, side: usize) -> bool
 
 // The sheet with one block more, in place of the sheet: refusals 1, 2, 3 and 22.
 pub fn add(sheet: &mut [i64], samples: &[i32], side: &[u8]) -> Verdict
-    ensures result_value { verdictSaid result ≡ verdict (addAnswer sheet.old (asBlock samples.now side.now)) }
-    ensures sheet_after { sheet.new ≡ addLeft sheet.old (asBlock samples.now side.now) }
+    ensures result_value { verdict_said result ≡ verdict (add_answer sheet.old (as_block samples.now side.now)) }
+    ensures sheet_after { sheet.new ≡ add_left sheet.old (as_block samples.now side.now) }
 {
     if !are_lengths(sheet.len(), samples.len(), side.len()) {
         return Verdict::Refused {

@@ -1,9 +1,9 @@
 // The sheet of one block: the lines of each channel, of its figures and its side table.
 ghost use Rattle.std.specs.Prelude.{◌≡◌, ◌<◌, ◌*◌, ◌^◌, pos, length};
 ghost use Rattle.std.specs.Int.Signed.{mag};
-ghost use Rattle.block.specs.Side.{columns, sideLength};
-ghost use Rattle.levels.specs.Sheets.{framesSet, ofSide};
-ghost use Rattle.levels.specs.Inner.{Small, magnitudeOf, lines_of, block_lines};
+ghost use Rattle.block.specs.Side.{columns, side_length};
+ghost use Rattle.levels.specs.Sheets.{frames_set, of_side};
+ghost use Rattle.levels.specs.Inner.{Small, magnitude_of, lines_of, block_lines};
 
 use crate::figures::Figures;
 use crate::numbers;
@@ -31,7 +31,7 @@ fn counted(n: u32) -> i64
 // The larger magnitude of two numbers.
 fn magnitude(x: i64, y: i64) -> i64
     requires { (mag x < 2 ^ 60) × (mag y < 2 ^ 60) }
-    ensures { result ≡ magnitudeOf x y }
+    ensures { result ≡ magnitude_of x y }
 {
     let a = numbers::distance(x);
     let b = numbers::distance(y);
@@ -43,8 +43,8 @@ fn magnitude(x: i64, y: i64) -> i64
 
 // How many frames have their bit set in a column.
 fn frames(side: &[u8], column: usize) -> u32
-    requires { (length side.now ≡ sideLength) × (column < 2 * columns) }
-    ensures { result ≡ framesSet column side.now }
+    requires { (length side.now ≡ side_length) × (column < 2 * columns) }
+    ensures { result ≡ frames_set column side.now }
 {
     let mut n: u32 = 0;
     let mut i: usize = 0;
@@ -57,8 +57,8 @@ fn frames(side: &[u8], column: usize) -> u32
 
 // 1 for a channel whose CRCC is right, else 0.
 fn right(side: &[u8], c: usize) -> u32
-    requires { (length side.now ≡ sideLength) × (c < 2) }
-    ensures { result ≡ ofSide 9 c side.now }
+    requires { (length side.now ≡ side_length) × (c < 2) }
+    ensures { result ≡ of_side 9 c side.now }
 {
     if block::status_right(side, c) {
         return 1;
@@ -68,7 +68,7 @@ fn right(side: &[u8], c: usize) -> u32
 
 // The lines of a channel of one block, but for its count and its mark.
 fn channel_lines(f: Figures, side: &[u8], c: usize) -> Lines
-    requires { (length side.now ≡ sideLength) × (c < 2) × Small f }
+    requires { (length side.now ≡ side_length) × (c < 2) × Small f }
     ensures { result ≡ lines_of f c side.now }
 {
     Lines {
@@ -85,7 +85,7 @@ fn channel_lines(f: Figures, side: &[u8], c: usize) -> Lines
 
 // The sheet of one block, of the figures of its channels.
 pub(crate) fn lay_block(f: Figures, g: Figures, side: &[u8]) -> [i64; 20]
-    requires { (length side.now ≡ sideLength) × Small f × Small g }
+    requires { (length side.now ≡ side_length) × Small f × Small g }
     ensures { result ≡ block_lines f g side.now }
 {
     let a = channel_lines(f, side, 0);

@@ -4,7 +4,7 @@ use mathlib.Core.Path.{◌≡◌, refl}
 use mathlib.Core.Bool.{xor}
 use mathlib.Core.List.{List, [], ◌∷◌}
 use Prim.Native.Nat.{ℕ}
-use Rattle.bits.specs.Row.{bigBits, little}
+use Rattle.bits.specs.Row.{big_bits, little}
 use Rattle.bits.specs.Listed.{listed}
 use Rattle.line.specs.Biphase.{held}
 
@@ -20,6 +20,6 @@ helds =
     0 ∷ 8 ∷ 8 ∷ 0 ∷ 4 ∷ 12 ∷ 12 ∷ 4 ∷ 4 ∷ 12 ∷ 12 ∷ 4 ∷ 0 ∷ 8 ∷ 8 ∷ 0 ∷ 2 ∷ 10 ∷ 10 ∷ 2 ∷ 6 ∷ 14 ∷ 14 ∷ 6 ∷ 6 ∷ 14 ∷ 14 ∷ 6 ∷ 2 ∷ 10 ∷ 10 ∷ 2 ∷
     2 ∷ 10 ∷ 10 ∷ 2 ∷ 6 ∷ 14 ∷ 14 ∷ 6 ∷ 6 ∷ 14 ∷ 14 ∷ 6 ∷ 2 ∷ 10 ∷ 10 ∷ 2 ∷ 0 ∷ 8 ∷ 8 ∷ 0 ∷ 4 ∷ 12 ∷ 12 ∷ 4 ∷ 4 ∷ 12 ∷ 12 ∷ 4 ∷ 0 ∷ 8 ∷ 8 ∷ 0 ∷ []
 
-pub helds-right : helds ≡ listed 0 256 (λ o. little (held (bigBits 8 o)))
-unfolding listed held little bigBits xor
+pub helds-right : helds ≡ listed 0 256 (λ o. little (held (big_bits 8 o)))
+unfolding listed held little big_bits xor
 helds-right = refl

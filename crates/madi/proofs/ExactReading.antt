@@ -18,11 +18,11 @@ use Rattle.answer.specs.Demand.{◌&◌}
 use Rattle.line.specs.Nrzi.{levels}
 use Rattle.madi_code.specs.Frame.{boundary, counted}
 use Rattle.madi_code.proofs.FrameLaws.{counted-le}
-use Rattle.madi_read.specs.Reader.{carried, Frame, at_start, cleared, rowRead, frameRead}
+use Rattle.madi_read.specs.Reader.{carried, Frame, at_start, cleared, row_read, frame_read}
 use Rattle.madi_read.proofs.Carrying.{length-carried}
 use Rattle.madi_read.proofs.Lines.{line-carries, line-spare}
 use Rattle.madi_read.proofs.Accepting.{accepting, demands-met}
-use Rattle.madi.specs.Units.{Part, unitsRow, channelsIn, commandsIn, withUnits, Lawful}
+use Rattle.madi.specs.Units.{Part, units_row, channels_in, commands_in, with_units, Lawful}
 use Rattle.madi.proofs.UnitLaws.{units-length, units-words, units-commands, units-active, one-frame}
 use Rattle.madi.proofs.Reading.{lawful-read, units-read}
 
@@ -34,21 +34,21 @@ use Rattle.madi.proofs.Reading.{lawful-read, units-read}
 pub record Stood (channels level bits : ℕ) (line : List ℕ) (f : Frame) : Type 0 where
   pub us : List Part
   pub lawful : Lawful channels us
-  pub units : carried level bits line ≡ unitsRow us
-  pub only : (vs : List Part) → Lawful channels vs → carried level bits line ≡ unitsRow vs → us ≡ vs
-  pub words : f.words ≡ map cleared (channelsIn us)
-  pub commands : f.commands ≡ commandsIn us
-  pub active : f.active ≡ count (across 1 (channelsIn us))
+  pub units : carried level bits line ≡ units_row us
+  pub only : (vs : List Part) → Lawful channels vs → carried level bits line ≡ units_row vs → us ≡ vs
+  pub words : f.words ≡ map cleared (channels_in us)
+  pub commands : f.commands ≡ commands_in us
+  pub active : f.active ≡ count (across 1 (channels_in us))
   pub whole : bits ≡ boundary channels (length f.commands)
 
 pub counts-stood : (channels level bits : ℕ) (line : List ℕ) (room places : ℕ) (f : Frame)
-    → frameRead channels level bits line room places ≡ accepted f → Stood channels level bits line f
+    → frame_read channels level bits line room places ≡ accepted f → Stood channels level bits line f
 counts-stood channels level bits line room places f reads =
     let r : Row = carried level bits line in
     let read = units-read r channels f (accepting channels level bits line room places f reads).read in
     let us : List Part = read.0 in
-    let given : f ≡ withUnits us at_start = read.3 in
-    let came : f.commands ≡ commandsIn us = ap (λ (g : Frame). g.commands) given ∙ units-commands us at_start in
+    let given : f ≡ with_units us at_start = read.3 in
+    let came : f.commands ≡ commands_in us = ap (λ (g : Frame). g.commands) given ∙ units-commands us at_start in
     record {
       us = us;
       lawful = read.1;
@@ -66,12 +66,12 @@ counts-stood channels level bits line room places f reads =
 
 -- the line of units, after a level
 abbrev pub line_of : ℕ → List Part → List ℕ
-line_of level us = octets ((length (unitsRow us) + 7) / 8) (levels (odd level) (unitsRow us))
+line_of level us = octets ((length (units_row us) + 7) / 8) (levels (odd level) (units_row us))
 
 pub lawful-accepted : (channels level : ℕ) (us : List Part) → counted channels ≡ true → level ≤ 1 → Lawful channels us
-    → frameRead channels level (length (unitsRow us)) (line_of level us) channels 255 ≡ accepted (withUnits us at_start)
+    → frame_read channels level (length (units_row us)) (line_of level us) channels 255 ≡ accepted (with_units us at_start)
 lawful-accepted channels level us counts digital l =
-    let r : Row = unitsRow us in
+    let r : Row = units_row us in
     let b : ℕ = length r in
     let n : ℕ = (b + 7) / 8 in
     let line : List ℕ = line_of level us in
@@ -81,4 +81,4 @@ lawful-accepted channels level us counts digital l =
     demands-met channels level b line channels 255
     (counts & le-leb level 1 digital & le-leb b 5110 most & eq-eqb (length line) n length-line & eq-eqb channels channels refl & eq-eqb 255 255 refl
     & eq-eqb (window (symbols line) b (length line * 8 - b)) 0 spare & tt)
-    ∙ ap (λ (x : Row). rowRead x channels) (line-carries level r n (omega arith)) ∙ lawful-read channels us l
+    ∙ ap (λ (x : Row). row_read x channels) (line-carries level r n (omega arith)) ∙ lawful-read channels us l

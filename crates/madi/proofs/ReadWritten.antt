@@ -16,18 +16,18 @@ use Rattle.bits.proofs.Packing.{length-pack}
 use Rattle.answer.specs.Answer.{Answer, Answer.accepted, mapped, verdict, after, rewritten}
 use Rattle.answer.proofs.Chains.{value_of}
 use Rattle.answer.proofs.Residues.{whole}
-use Rattle.subframe.specs.Body.{evenBody}
+use Rattle.subframe.specs.Body.{even_body}
 use Rattle.line.specs.Nrzi.{levels}
 use Rattle.madi_code.specs.Frame.{boundary, numbered, synced}
-use Rattle.madi_code.specs.Groups.{commandRow}
-use Rattle.madi_code.specs.Channels.{channelRow}
-use Rattle.madi_read.specs.Reader.{Frame, at_start, cleared, frameRead, countsOf, words_of, list_of, commandsOf}
+use Rattle.madi_code.specs.Groups.{command_row}
+use Rattle.madi_code.specs.Channels.{channel_row}
+use Rattle.madi_read.specs.Reader.{Frame, at_start, cleared, frame_read, counts_of, words_of, list_of, commands_of}
 use Rattle.madi_read.proofs.Copying.{length-list}
-use Rattle.madi_write.specs.Writer.{channelWords, needed, frameOctets, frameWritten}
-use Rattle.madi_write.specs.Inner.{sentWord}
-use Rattle.madi_write.proofs.Frames.{length-words, word_at, frame_row, frame-octets}
+use Rattle.madi_write.specs.Writer.{channel_words, needed, frame_octets, frame_written}
+use Rattle.madi_write.specs.Inner.{sent_word}
+use Rattle.madi_write.proofs.Frames.{length-words, word_at, frame_row_lem, frame-octets}
 use Rattle.madi_write.proofs.Checks.{Writable, accepted-frame}
-use Rattle.madi.specs.Units.{Part, unitsRow, channelsIn, commandsIn, withUnits, Placed, Lawful, padded}
+use Rattle.madi.specs.Units.{Part, units_row, channels_in, commands_in, with_units, Placed, Lawful, padded}
 use Rattle.madi.specs.Units.Part.{channel, command}
 use Rattle.madi.proofs.Sending.{sent-small, sent-bit, first-ok, active-ok, even-ok, padded-at, length-padded}
 use Rattle.madi.proofs.UnitLaws.{units-length, units-words, units-commands, units-active}
@@ -38,25 +38,25 @@ use Rattle.madi.proofs.ExactReading.{line_of, lawful-accepted}
 abbrev pub laid : List ℕ → List ℕ → List Part
 laid ws cs = map channel ws ++ map command cs
 
-row-commands : (cs : List ℕ) → unitsRow (map command cs) ≡ chain commandRow cs
-unfolding unitsRow chain
+row-commands : (cs : List ℕ) → units_row (map command cs) ≡ chain command_row cs
+unfolding units_row chain
 row-commands [] = refl
-row-commands (c ∷ cs) = ap (λ (x : Row). commandRow c ++ x) (row-commands cs)
+row-commands (c ∷ cs) = ap (λ (x : Row). command_row c ++ x) (row-commands cs)
 
-row_laid : (ws cs : List ℕ) → unitsRow (laid ws cs) ≡ chain channelRow ws ++ chain commandRow cs
-unfolding unitsRow chain
+row_laid : (ws cs : List ℕ) → units_row (laid ws cs) ≡ chain channel_row ws ++ chain command_row cs
+unfolding units_row chain
 row_laid [] cs = row-commands cs
 row_laid (w ∷ ws) cs =
-    ap (λ (x : Row). channelRow w ++ x) (row_laid ws cs) ∙ sym (append_assoc (channelRow w) (chain channelRow ws) (chain commandRow cs))
+    ap (λ (x : Row). channel_row w ++ x) (row_laid ws cs) ∙ sym (append_assoc (channel_row w) (chain channel_row ws) (chain command_row cs))
 
-channels-laid : (ws cs : List ℕ) → channelsIn (laid ws cs) ≡ ws
-unfolding channelsIn
+channels-laid : (ws cs : List ℕ) → channels_in (laid ws cs) ≡ ws
+unfolding channels_in
 channels-laid [] [] = refl
 channels-laid [] (c ∷ cs) = channels-laid [] cs
 channels-laid (w ∷ ws) cs = ap (λ (x : List ℕ). w ∷ x) (channels-laid ws cs)
 
-commands-laid : (ws cs : List ℕ) → commandsIn (laid ws cs) ≡ cs
-unfolding commandsIn
+commands-laid : (ws cs : List ℕ) → commands_in (laid ws cs) ≡ cs
+unfolding commands_in
 commands-laid [] [] = refl
 commands-laid [] (c ∷ cs) = ap (λ (x : List ℕ). c ∷ x) (commands-laid [] cs)
 commands-laid (w ∷ ws) cs = commands-laid ws cs
@@ -65,7 +65,7 @@ commands-laid (w ∷ ws) cs = commands-laid ws cs
 
 module _ (channels : ℕ) (words commands : List ℕ) (level room : ℕ) (w : Writable channels words commands level room) (small : Below (2 ^ 32) words) where
   ws : List ℕ
-  ws = channelWords channels words
+  ws = channel_words channels words
 
   long : length ws ≡ channels
   unfolding ws
@@ -80,7 +80,7 @@ module _ (channels : ℕ) (words commands : List ℕ) (level room : ℕ) (w : Wr
       subst (λ (l : List ℕ). Placed n (min n (length words)) l × (min n (length words) + count (across 1 l) ≡ length words))
       (sym (drop_of_length-le ws {i = n} (omega (arith, long)))) (tt, m)
   in_place (suc k) n e =
-      let v : ℕ = sentWord words n in
+      let v : ℕ = sent_word words n in
       let next = in_place k (n + 1) (omega arith) in
       let grows = sent-bit words w.even w.clean small n in
       let here : drop n ws ≡ v ∷ drop (n + 1) ws =
@@ -96,7 +96,7 @@ module _ (channels : ℕ) (words commands : List ℕ) (level room : ℕ) (w : Wr
         omega (arith, next.1, grows, digit-odd (v / 2)),
       )
     where
-      word : (n : ℕ) → n < channels → get_or ws n 0 ≡ sentWord words n
+      word : (n : ℕ) → n < channels → get_or ws n 0 ≡ sent_word words n
       word n h = word_at channels words n h
 
   pub us : List Part
@@ -127,20 +127,20 @@ module _ (channels : ℕ) (words commands : List ℕ) (level room : ℕ) (w : Wr
       (λ n h. let l : n < channels = omega (arith, length-map ws cleared, long) in
       get_or-map cleared ws n 0 ∙ ap cleared (word_at channels words n l) ∙ sym (padded-at words w.even w.clean small channels n l))
 
-  pub bits-sent : length (unitsRow us) ≡ boundary channels (length commands)
+  pub bits-sent : length (units_row us) ≡ boundary channels (length commands)
   unfolding us
   bits-sent = units-length us ∙ ap₂ boundary lawful.all (ap length (commands-laid ws commands))
 
-  pub line-sent : line_of level us ≡ frameOctets channels words commands level
+  pub line-sent : line_of level us ≡ frame_octets channels words commands level
   unfolding us ws
   line-sent =
-      ap (λ (n : ℕ). octets ((n + 7) / 8) (levels (odd level) (unitsRow us))) bits-sent
-      ∙ ap (λ (r : Row). octets (needed channels (length commands)) (levels (odd level) r)) (row_laid ws commands ∙ sym (frame_row channels words commands))
+      ap (λ (n : ℕ). octets ((n + 7) / 8) (levels (odd level) (units_row us))) bits-sent
+      ∙ ap (λ (r : Row). octets (needed channels (length commands)) (levels (odd level) r)) (row_laid ws commands ∙ sym (frame_row_lem channels words commands))
       ∙ sym (frame-octets channels words commands level)
 
   -- what they give
   abbrev given : Frame
-  given = withUnits us at_start
+  given = with_units us at_start
 
   pub given-words : given.words ≡ padded channels words
   unfolding us
@@ -157,21 +157,21 @@ module _ (channels : ℕ) (words commands : List ℕ) (level room : ℕ) (w : Wr
 -- ---- the promise
 
 module _ (channels : ℕ) (words commands : List ℕ) (level : ℕ) (old : List ℕ) (small : Below (2 ^ 32) words)
-    (accepts : verdict (frameWritten channels words commands level (length old)) ≡ accepted tt) where
+    (accepts : verdict (frame_written channels words commands level (length old)) ≡ accepted tt) where
   -- the octets needed, of the buffer that the writer leaves
   abbrev pub sent : List ℕ
-  sent = take (needed channels (length commands)) (rewritten (frameWritten channels words commands level (length old)) old)
+  sent = take (needed channels (length commands)) (rewritten (frame_written channels words commands level (length old)) old)
 
   -- and the bits
   abbrev pub bits : ℕ
   bits = boundary channels (length commands)
 
   line : List ℕ
-  line = (value_of (λ v. tt) (frameWritten channels words commands level (length old)) accepts).0
+  line = (value_of (λ v. tt) (frame_written channels words commands level (length old)) accepts).0
 
-  took : frameWritten channels words commands level (length old) ≡ accepted line
+  took : frame_written channels words commands level (length old) ≡ accepted line
   unfolding line
-  took = (value_of (λ v. tt) (frameWritten channels words commands level (length old)) accepts).1
+  took = (value_of (λ v. tt) (frame_written channels words commands level (length old)) accepts).1
 
   may : Writable channels words commands level (length old)
   may = (accepted-frame channels words commands level (length old) line took).0
@@ -182,41 +182,41 @@ module _ (channels : ℕ) (words commands : List ℕ) (level : ℕ) (old : List 
   sent-line : sent ≡ line_of level units
   unfolding units
   sent-line =
-      let is : frameOctets channels words commands level ≡ line = (accepted-frame channels words commands level (length old) line took).1 in
+      let is : frame_octets channels words commands level ≡ line = (accepted-frame channels words commands level (length old) line took).1 in
       let l : length line ≡ needed channels (length commands) =
       ap length (sym is ∙ frame-octets channels words commands level) ∙ length-pack big 8 (needed channels (length commands)) _ in
       ap (λ (a : Answer (List ℕ)). take (needed channels (length commands)) (rewritten a old)) took
       ∙ take_at line (drop (length line) old) (needed channels (length commands)) l
       ∙ sym (line-sent channels words commands level (length old) may small ∙ is)
 
-  reads : frameRead channels level bits sent channels 255 ≡ accepted (withUnits units at_start)
+  reads : frame_read channels level bits sent channels 255 ≡ accepted (with_units units at_start)
   unfolding units
   reads =
-      ap₂ (λ (l : List ℕ) (b : ℕ). frameRead channels level b l channels 255) sent-line (sym (bits-sent channels words commands level (length old) may small))
+      ap₂ (λ (l : List ℕ) (b : ℕ). frame_read channels level b l channels 255) sent-line (sym (bits-sent channels words commands level (length old) may small))
       ∙ lawful-accepted channels level units may.counts may.digital (lawful channels words commands level (length old) may small)
 
   -- the reader, given those octets and bits and the level, answers with the counts
-  pub read-counts : mapped countsOf (frameRead channels level bits sent channels 255) ≡ accepted (length words, length commands)
+  pub read-counts : mapped counts_of (frame_read channels level bits sent channels 255) ≡ accepted (length words, length commands)
   unfolding units
   read-counts =
-      ap (mapped countsOf) reads
+      ap (mapped counts_of) reads
       ∙ ap₂ (λ (n s : ℕ). accepted (n, s)) (given-active channels words commands level (length old) may small)
       (ap length (given-commands channels words commands level (length old) may small))
 
   -- and leaves every word of the frame in a buffer as long as the channel count, zeros for the inactive ones
   pub read-words : (buffer : List ℕ) → length buffer ≡ channels
-      → after words_of (frameRead channels level bits sent (length buffer) 255) buffer ≡ padded channels words
+      → after words_of (frame_read channels level bits sent (length buffer) 255) buffer ≡ padded channels words
   unfolding units
   read-words buffer h =
       let same = given-words channels words commands level (length old) may small in
-      ap (λ (n : ℕ). after words_of (frameRead channels level bits sent n 255) buffer) h ∙ ap (λ (a : Answer Frame). after words_of a buffer) reads
-      ∙ whole words_of (withUnits units at_start) buffer (ap length same ∙ length-padded channels words may.most ∙ sym h) ∙ same
+      ap (λ (n : ℕ). after words_of (frame_read channels level bits sent n 255) buffer) h ∙ ap (λ (a : Answer Frame). after words_of a buffer) reads
+      ∙ whole words_of (with_units units at_start) buffer (ap length same ∙ length-padded channels words may.most ∙ sym h) ∙ same
 
   -- and the commands in their order in a list of 255, zeros after them
   pub read-commands : (list : List ℕ) → length list ≡ 255
-      → after commandsOf (frameRead channels level bits sent channels (length list)) list ≡ list_of commands
+      → after commands_of (frame_read channels level bits sent channels (length list)) list ≡ list_of commands
   unfolding units
   read-commands list h =
       let same = ap list_of (given-commands channels words commands level (length old) may small) in
-      ap (λ (n : ℕ). after commandsOf (frameRead channels level bits sent channels n) list) h ∙ ap (λ (a : Answer Frame). after commandsOf a list) reads
-      ∙ whole commandsOf (withUnits units at_start) list (ap length same ∙ length-list commands may.short ∙ sym h) ∙ same
+      ap (λ (n : ℕ). after commands_of (frame_read channels level bits sent channels n) list) h ∙ ap (λ (a : Answer Frame). after commands_of a list) reads
+      ∙ whole commands_of (with_units units at_start) list (ap length same ∙ length-list commands may.short ∙ sym h) ∙ same

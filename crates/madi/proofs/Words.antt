@@ -13,7 +13,7 @@ use Rattle.bits.specs.Pick.{pick}
 use Rattle.bits.specs.Row.{odd, bit, digit, count}
 use Rattle.bits.specs.Cross.{across}
 use Rattle.bits.proofs.Digits.{digit-odd}
-use Rattle.subframe.specs.Body.{evenBody}
+use Rattle.subframe.specs.Body.{even_body}
 use Rattle.madi_read.specs.Reader.{cleared}
 use Rattle.madi_write.specs.Writer.{marked}
 use Rattle.madi_write.proofs.Frames.{marked-words}
@@ -109,7 +109,7 @@ sent-again (v ∷ vs) h q = by (eqb (bit 1 v) 1) refl q.1
 
 -- ---- what the writer asks of the words
 
-pub even-again : (n active : ℕ) (vs : List ℕ) → Placed n active vs → (i : ℕ) → i < length vs → evenBody (get_or (map cleared vs) i 0) ≡ true
+pub even-again : (n active : ℕ) (vs : List ℕ) → Placed n active vs → (i : ℕ) → i < length vs → even_body (get_or (map cleared vs) i 0) ≡ true
 unfolding Placed
 even-again n active [] q i h = absurd (omega arith)
 even-again n active (v ∷ vs) q zero h = even-same (cleared v) v (omega arith) ∙ q.2

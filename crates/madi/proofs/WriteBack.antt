@@ -17,18 +17,18 @@ use Rattle.answer.specs.Answer.{Answer, Answer.accepted, mapped, verdict, after,
 use Rattle.answer.specs.Demand.{AllMet, ◌&◌}
 use Rattle.answer.proofs.Chains.{value_of}
 use Rattle.answer.proofs.Residues.{whole}
-use Rattle.subframe.specs.Body.{evenBody}
+use Rattle.subframe.specs.Body.{even_body}
 use Rattle.line.specs.Nrzi.{levels}
 use Rattle.madi_code.specs.Frame.{boundary, numbered, synced}
 use Rattle.madi_code.proofs.FrameLaws.{counted-some}
-use Rattle.madi_read.specs.Reader.{carried, Frame, cleared, frameRead, countsOf, words_of, commandsOf}
+use Rattle.madi_read.specs.Reader.{carried, Frame, cleared, frame_read, counts_of, words_of, commands_of}
 use Rattle.madi_read.proofs.Copying.{length-list, list-front}
 use Rattle.madi_read.proofs.Lines.{line-again}
 use Rattle.madi_read.proofs.Accepting.{Accepted, accepting}
-use Rattle.madi_write.specs.Writer.{marked, channelWords, frameRow, needed, frameOctets, isList, writeDemands, frameWritten}
-use Rattle.madi_write.proofs.Frames.{all_words, frame_row, frame-octets}
+use Rattle.madi_write.specs.Writer.{marked, channel_words, frame_row, needed, frame_octets, is_list, write_demands, frame_written}
+use Rattle.madi_write.proofs.Frames.{all_words, frame_row_lem, frame-octets}
 use Rattle.madi_write.proofs.Checks.{list_right, sound-met, frame-accepted}
-use Rattle.madi.specs.Units.{channelsIn, CommandsLast}
+use Rattle.madi.specs.Units.{channels_in, CommandsLast}
 use Rattle.madi.proofs.ExactReading.{Stood, counts-stood}
 use Rattle.madi.proofs.LastCommands.{Row-of, last_row}
 use Rattle.madi.proofs.Words.{sent-again, even-again, clear-again}
@@ -36,7 +36,7 @@ use Rattle.madi.proofs.Words.{sent-again, even-again, clear-again}
 -- ---- a frame that is read
 
 module _ (channels level bits : ℕ) (line : List ℕ) (room places : ℕ) (f : Frame) (octal : Below 256 line)
-    (reads : frameRead channels level bits line room places ≡ accepted f) where
+    (reads : frame_read channels level bits line room places ≡ accepted f) where
   got : Accepted channels level bits line room places f
   got = accepting channels level bits line room places f reads
 
@@ -54,7 +54,7 @@ module _ (channels level bits : ℕ) (line : List ℕ) (room places : ℕ) (f : 
 
   -- the words with which the frame was sent
   vs : List ℕ
-  vs = channelsIn stood.us
+  vs = channels_in stood.us
 
   given : List ℕ
   given = take a ws
@@ -88,18 +88,18 @@ module _ (channels level bits : ℕ) (line : List ℕ) (room places : ℕ) (f : 
   unfolding given
   length-given = length-take-le a ws (omega (arith, most, length-ws))
 
-  sent-words : channelWords channels given ≡ vs
+  sent-words : channel_words channels given ≡ vs
   unfolding given
   sent-words =
       all_words channels given ∙ ap (λ (n : ℕ). marked (take a ws) ++ replicate (channels - n) 0) length-given
       ∙ ap₂ (λ (xs : List ℕ) (n : ℕ). marked (take a xs) ++ replicate (n - a) 0) words_are (sym all)
       ∙ ap (λ (c : ℕ). marked (take c (map cleared vs)) ++ replicate (length vs - c) 0) count-is ∙ sym again.1
 
-  given-even : (i : ℕ) → i < length given → evenBody (get_or given i 0) ≡ true
+  given-even : (i : ℕ) → i < length given → even_body (get_or given i 0) ≡ true
   unfolding given vs
   given-even i h =
       let l : i < a = omega (arith, length-given) in
-      ap evenBody (get_or-take a ws i 0 l ∙ ap (λ (xs : List ℕ). get_or xs i 0) words_are)
+      ap even_body (get_or-take a ws i 0 l ∙ ap (λ (xs : List ℕ). get_or xs i 0) words_are)
       ∙ even-again 0 0 vs stood.lawful.placed i (omega (arith, most, all))
 
   given-clear : (i : ℕ) → i < length given → get_or given i 0 % 4 ≡ 0
@@ -113,52 +113,52 @@ module _ (channels level bits : ℕ) (line : List ℕ) (room places : ℕ) (f : 
   unfolding cs
   few = omega (arith, ap length stood.commands, stood.lawful.few)
 
-  list : isList cs ≡ true
+  list : is_list cs ≡ true
   unfolding cs
   list = list_right cs few (ap numbered stood.commands ∙ stood.lawful.named) (ap synced stood.commands ∙ stood.lawful.with-sync)
 
   module _ (last : CommandsLast channels (carried level bits line)) where
-    same_row : carried level bits line ≡ frameRow channels given cs
+    same_row : carried level bits line ≡ frame_row channels given cs
     unfolding vs cs
     same_row =
         stood.units
         ∙ last_row stood.us stood.lawful.named
         (subst (λ (r : Row). CommandsLast (length vs) r) stood.units (subst (λ (n : ℕ). CommandsLast n (carried level bits line)) (sym all) last))
-        ∙ ap₂ Row-of (sym sent-words) (sym stood.commands) ∙ sym (frame_row channels given cs)
+        ∙ ap₂ Row-of (sym sent-words) (sym stood.commands) ∙ sym (frame_row_lem channels given cs)
 
     bits_are : bits ≡ boundary channels (length cs)
     unfolding cs
     bits_are = stood.whole
 
-    same_line : frameOctets channels given cs level ≡ line
+    same_line : frame_octets channels given cs level ≡ line
     same_line =
         let n : needed channels (length cs) ≡ length line = omega (arith, bits_are, got.long) in
         frame-octets channels given cs level ∙ ap₂ (λ (k : ℕ) (r : Row). octets k (levels (odd level) r)) n (sym same_row)
         ∙ line-again level bits line octal (omega (arith, got.long)) got.spare
 
-    meets : (space : ℕ) → length line ≤ space → AllMet (writeDemands channels given cs level space)
+    meets : (space : ℕ) → length line ≤ space → AllMet (write_demands channels given cs level space)
     meets space h =
         got.counts & le-leb 1 (length given) (omega (arith, length-given, some)) & le-leb (length given) channels (omega (arith, length-given, most))
         & list & le-leb level 1 got.digital & le-leb (needed channels (length cs)) space (omega (arith, bits_are, got.long))
         & sound-met given (λ i h. (given-even i h, given-clear i h))
 
-    again-written : (space : ℕ) → length line ≤ space → frameWritten channels given cs level space ≡ accepted line
+    again-written : (space : ℕ) → length line ≤ space → frame_written channels given cs level space ≡ accepted line
     again-written space h = frame-accepted channels given cs level space (meets space h) ∙ ap accepted same_line
 
 -- ---- the promise: of the words and of the list of commands that the reader leaves, with the counts that it answers
 
 module _ (channels level bits : ℕ) (line words list : List ℕ) (n s : ℕ) (octal : Below 256 line)
-    (accepts : mapped countsOf (frameRead channels level bits line (length words) (length list)) ≡ accepted (n, s))
+    (accepts : mapped counts_of (frame_read channels level bits line (length words) (length list)) ≡ accepted (n, s))
     (last : CommandsLast channels (carried level bits line)) where
-  value : (f : Frame) × (frameRead channels level bits line (length words) (length list) ≡ accepted f) × (countsOf f ≡ (n, s))
-  value = value_of countsOf (frameRead channels level bits line (length words) (length list)) accepts
+  value : (f : Frame) × (frame_read channels level bits line (length words) (length list) ≡ accepted f) × (counts_of f ≡ (n, s))
+  value = value_of counts_of (frame_read channels level bits line (length words) (length list)) accepts
 
   -- the active words, and the commands that came
   abbrev pub active-words : List ℕ
-  active-words = take n (after words_of (frameRead channels level bits line (length words) (length list)) words)
+  active-words = take n (after words_of (frame_read channels level bits line (length words) (length list)) words)
 
   abbrev pub came : List ℕ
-  came = take s (after commandsOf (frameRead channels level bits line (length words) (length list)) list)
+  came = take s (after commands_of (frame_read channels level bits line (length words) (length list)) list)
 
   words-are-given : active-words ≡ given channels level bits line (length words) (length list) value.0 octal value.1
   unfolding given a ws
@@ -175,21 +175,21 @@ module _ (channels level bits : ℕ) (line words list : List ℕ) (n s : ℕ) (o
       let f = value.0 in
       let listed = (accepting channels level bits line (length words) (length list) f value.1).listed in
       ap₂ (λ (k : ℕ) (l : List ℕ). take k l) (sym (ap (λ c. c.1) value.2))
-      (ap (λ (x : Answer Frame). after commandsOf x list) value.1
-      ∙ whole commandsOf f list (length-list f.commands (few channels level bits line (length words) (length list) f octal value.1) ∙ sym listed))
+      (ap (λ (x : Answer Frame). after commands_of x list) value.1
+      ∙ whole commands_of f list (length-list f.commands (few channels level bits line (length words) (length list) f octal value.1) ∙ sym listed))
       ∙ list-front f.commands
 
-  writes : (space : ℕ) → length line ≤ space → frameWritten channels active-words came level space ≡ accepted line
+  writes : (space : ℕ) → length line ≤ space → frame_written channels active-words came level space ≡ accepted line
   unfolding cs
   writes space h =
-      ap₂ (λ (ws cs : List ℕ). frameWritten channels ws cs level space) words-are-given commands-are
+      ap₂ (λ (ws cs : List ℕ). frame_written channels ws cs level space) words-are-given commands-are
       ∙ again-written channels level bits line (length words) (length list) value.0 octal value.1 last space h
 
   -- the writer, given them, the level and a buffer at least as long as the line, accepts
-  pub write-back : (old : List ℕ) → length line ≤ length old → verdict (frameWritten channels active-words came level (length old)) ≡ accepted tt
+  pub write-back : (old : List ℕ) → length line ≤ length old → verdict (frame_written channels active-words came level (length old)) ≡ accepted tt
   write-back old h = ap verdict (writes (length old) h)
 
   -- and the line stands in front in the buffer, and after it what stood there
   pub line-back : (old : List ℕ) → length line ≤ length old
-      → rewritten (frameWritten channels active-words came level (length old)) old ≡ line ++ drop (length line) old
+      → rewritten (frame_written channels active-words came level (length old)) old ≡ line ++ drop (length line) old
   line-back old h = ap (λ (x : Answer (List ℕ)). rewritten x old) (writes (length old) h)

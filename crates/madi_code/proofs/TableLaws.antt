@@ -8,26 +8,26 @@ use borrow.Author.Tests.{ltb-true, lt-ltb}
 use lib.Dec.{ltb}
 use lib.Pow.{shr-shr}
 use lib.ListN.{length, get_or}
-use Rattle.bits.specs.Row.{Row, bits, bigBits, big}
+use Rattle.bits.specs.Row.{Row, bits, big_bits, big}
 use Rattle.bits.specs.Window.{part, window}
 use Rattle.bits.proofs.Tests.{pick-cases}
-use Rattle.madi_code.specs.Groups.{groupCode, group_of}
-use Rattle.madi_code.specs.Channels.{channelRow, channelFrom, channelOf}
-use Rattle.bits.proofs.Lists.{getD-listed, listed-all}
+use Rattle.madi_code.specs.Groups.{group_code, group_of}
+use Rattle.madi_code.specs.Channels.{channel_row, channel_from, channel_of}
+use Rattle.bits.proofs.Lists.{get_or-listed, listed-all}
 use Rattle.madi_code.specs.Inner.{
   Sends,
-  groupTable,
-  fourGroups,
-  eightGroups,
+  group_table,
+  four_groups,
+  eight_groups,
   meant,
   Means,
-  meaningTable,
-  fourSum,
-  fourFours,
-  eightSum,
-  eightFours,
-  wordByTable,
-  channelBy,
+  meaning_table,
+  four_sum,
+  four_fours,
+  eight_sum,
+  eight_fours,
+  word_by_table,
+  channel_by,
 }
 use Rattle.madi_code.specs.declared.Group.TheVariants.{Data}
 use Rattle.madi_code.specs.declared.ChannelBits.{ChannelBits}
@@ -37,8 +37,8 @@ use Rattle.madi_code.proofs.ChannelLaws.{groups-next, groups-all, group-inside, 
 
 -- ---- sent
 
-pub groups-sent : (t : List ℕ) (w : ℕ) → Sends t → eightGroups t w ≡ big (channelRow w)
-unfolding fourGroups eightGroups window part big
+pub groups-sent : (t : List ℕ) (w : ℕ) → Sends t → eight_groups t w ≡ big (channel_row w)
+unfolding four_groups eight_groups window part big
 groups-sent t w right =
     sym (sym (groups-all w) ∙ omega (
       arith,
@@ -58,11 +58,11 @@ groups-sent t w right =
       late 4,
       late 8,
       late 12,
-      ap (λ (x : ℕ). groupCode (big (bits 4 (x % 16)))) (div-one w),
+      ap (λ (x : ℕ). group_code (big (bits 4 (x % 16)))) (div-one w),
     ))
   where
-    late : (k : ℕ) → get_or t (w / 2 ^ 16 / 2 ^ k % 16) 0 ≡ groupCode (big (bits 4 (w / 2 ^ (16 + k) % 16)))
-    late k = right (w / 2 ^ 16 / 2 ^ k % 16) (omega arith) ∙ ap (λ (x : ℕ). groupCode (big (bits 4 (x % 16)))) (shr-shr w 16 k)
+    late : (k : ℕ) → get_or t (w / 2 ^ 16 / 2 ^ k % 16) 0 ≡ group_code (big (bits 4 (w / 2 ^ (16 + k) % 16)))
+    late k = right (w / 2 ^ 16 / 2 ^ k % 16) (omega arith) ∙ ap (λ (x : ℕ). group_code (big (bits 4 (x % 16)))) (shr-shr w 16 k)
 
 -- ---- received
 
@@ -76,14 +76,14 @@ module _ (t : List ℕ) (v : ℕ) (right : Means t) where
 
   -- a data group takes the channel on by four bits
   four-more : (g w : ℕ) → g < 8 → at g < 128
-      → (at g < 16) × (channelFrom (bigBits 40 v) (8 - g) g w ≡ channelFrom (bigBits 40 v) (8 - (g + 1)) (g + 1) (w + at g * 2 ^ (4 * g)))
+      → (at g < 16) × (channel_from (big_bits 40 v) (8 - g) g w ≡ channel_from (big_bits 40 v) (8 - (g + 1)) (g + 1) (w + at g * 2 ^ (4 * g)))
   unfolding at place
   four-more g w h small =
       let e : at g ≡ meant (place g) = right (place g) (omega arith) in
       meant-cases (place g)
-      (λ l. let said : group_of (window (bigBits 40 v) (5 * g) 5) ≡ Data (at g) =
+      (λ l. let said : group_of (window (big_bits 40 v) (5 * g) 5) ≡ Data (at g) =
       ap group_of (sym (group-inside v g h)) ∙ group-meant (place g) ∙ rw (lt-ltb (meant (place g)) 16 l, ← e) in
-      (omega arith, channel-more (bigBits 40 v) g w h (at g) said))
+      (omega arith, channel-more (big_bits 40 v) g w h (at g) said))
       (λ n. absurd (omega arith))
 
   last : at 7 ≡ get_or t (v % 32) 0
@@ -94,8 +94,8 @@ module _ (t : List ℕ) (v : ℕ) (right : Means t) where
   early k = ap (λ (x : ℕ). get_or t (x % 32) 0) (shr-shr v 20 k)
 
   -- eight sayings below 128 together are eight data groups
-  eight : eightSum t v < 128 → (eightFours t v < 2 ^ 32) × (channelOf (bigBits 40 v) ≡ Word (eightFours t v))
-  unfolding fourSum fourFours eightSum eightFours channelOf channelFrom at place
+  eight : eight_sum t v < 128 → (eight_fours t v < 2 ^ 32) × (channel_of (big_bits 40 v) ≡ Word (eight_fours t v))
+  unfolding four_sum four_fours eight_sum eight_fours channel_of channel_from at place
   eight h =
       let z = last in
       let a0 = early 15 in
@@ -118,32 +118,32 @@ module _ (t : List ℕ) (v : ℕ) (right : Means t) where
       let i = four-more 7 w7 (omega arith) (omega arith) in
       (omega arith, a.1 ∙ b.1 ∙ c.1 ∙ d.1 ∙ e.1 ∙ f.1 ∙ g.1 ∙ i.1 ∙ ap Word (omega arith))
 
-  pub word-received : wordByTable t v < 2 ^ 32 → channelOf (bigBits 40 v) ≡ Word (wordByTable t v)
-  unfolding wordByTable
+  pub word-received : word_by_table t v < 2 ^ 32 → channel_of (big_bits 40 v) ≡ Word (word_by_table t v)
+  unfolding word_by_table
   word-received =
-      pick-cases (λ (w : ℕ). w < 2 ^ 32 → channelOf (bigBits 40 v) ≡ Word w) (ltb (eightSum t v) 128) _ _
-      (λ s h. (eight (ltb-true (eightSum t v) 128 s)).1) (λ f h. absurd (omega arith))
+      pick-cases (λ (w : ℕ). w < 2 ^ 32 → channel_of (big_bits 40 v) ≡ Word w) (ltb (eight_sum t v) 128) _ _
+      (λ s h. (eight (ltb-true (eight_sum t v) 128 s)).1) (λ f h. absurd (omega arith))
 
-  pub channel-received : channelBy t v ≡ channelOf (bigBits 40 v)
-  unfolding channelBy
+  pub channel-received : channel_by t v ≡ channel_of (big_bits 40 v)
+  unfolding channel_by
   channel-received =
-      pick-cases (λ (x : ChannelBits). x ≡ channelOf (bigBits 40 v)) (ltb (wordByTable t v) (2 ^ 32)) _ _
-      (λ h. sym (word-received (ltb-true (wordByTable t v) (2 ^ 32) h))) (λ f. refl)
+      pick-cases (λ (x : ChannelBits). x ≡ channel_of (big_bits 40 v)) (ltb (word_by_table t v) (2 ^ 32)) _ _
+      (λ h. sym (word-received (ltb-true (word_by_table t v) (2 ^ 32) h))) (λ f. refl)
 
 -- ---- the tables that the functions give
 
-pub groups-send : (t : List ℕ) → t ≡ groupTable → Sends t
-unfolding groupTable
-groups-send t e x h = rw e (getD-listed 16 (λ k. groupCode (big (bits 4 k))) x 0 h)
+pub groups-send : (t : List ℕ) → t ≡ group_table → Sends t
+unfolding group_table
+groups-send t e x h = rw e (get_or-listed 16 (λ k. group_code (big (bits 4 k))) x 0 h)
 
-pub meanings-mean : (t : List ℕ) → t ≡ meaningTable → Means t
-unfolding meaningTable
-meanings-mean t e g h = rw e (getD-listed 32 meant g 0 h)
+pub meanings-mean : (t : List ℕ) → t ≡ meaning_table → Means t
+unfolding meaning_table
+meanings-mean t e g h = rw e (get_or-listed 32 meant g 0 h)
 
-pub sends-all : (t : List ℕ) → length t ≡ 16 → Sends t → t ≡ groupTable
-unfolding groupTable
-sends-all t n h = sym (listed-all 16 (λ k. groupCode (big (bits 4 k))) t 0 n (λ i l. sym (h i l)))
+pub sends-all : (t : List ℕ) → length t ≡ 16 → Sends t → t ≡ group_table
+unfolding group_table
+sends-all t n h = sym (listed-all 16 (λ k. group_code (big (bits 4 k))) t 0 n (λ i l. sym (h i l)))
 
-pub means-all : (t : List ℕ) → length t ≡ 32 → Means t → t ≡ meaningTable
-unfolding meaningTable
+pub means-all : (t : List ℕ) → length t ≡ 32 → Means t → t ≡ meaning_table
+unfolding meaning_table
 means-all t n h = sym (listed-all 32 meant t 0 n (λ i l. sym (h i l)))

@@ -1,11 +1,11 @@
 // MADI's channel counts and five-bit groups, and a channel's word as the 40 bits that send it.
 // Reader and writer lay a table of groups out once and lend it for all channels of a frame.
 ghost use Rattle.std.specs.Prelude.{◌≡◌, ◌%◌, ◌^◌, ◌<◌, take, get_or};
-ghost use Rattle.bits.specs.Row.{bigBits, big};
+ghost use Rattle.bits.specs.Row.{big_bits, big};
 ghost use Rattle.madi_code.specs.Frame.{counted, synced};
-ghost use Rattle.madi_code.specs.Groups.{groupCodes, commandCodes, commandOf, group_of};
-ghost use Rattle.madi_code.specs.Channels.{channelRow, channelOf};
-ghost use Rattle.madi_code.specs.Inner.{fourGroups, eightGroups, FoursOf, wordByTable, channelBy, groupTable, meaningTable, placedCommands, place_in, commandBy};
+ghost use Rattle.madi_code.specs.Groups.{group_codes, command_codes, command_of, group_of};
+ghost use Rattle.madi_code.specs.Channels.{channel_row, channel_of};
+ghost use Rattle.madi_code.specs.Inner.{four_groups, eight_groups, FoursOf, word_by_table, channel_by, group_table, meaning_table, placed_commands, place_in, command_by};
 
 mod tables;
 
@@ -75,7 +75,7 @@ fn wide(x: u8) -> u64
 
 // The document's table of groups.
 fn group_codes() -> [u8; 16]
-    ensures { result ≡ groupCodes }
+    ensures { result ≡ group_codes }
 {
     GROUPS
 }
@@ -83,7 +83,7 @@ fn group_codes() -> [u8; 16]
 // The table of groups, in the order of the four bits that stand in a word. Both constants are named once: each time that
 // one is named it is laid out anew.
 pub fn groups() -> [u8; 16]
-    ensures { result ≡ groupTable }
+    ensures { result ≡ group_table }
 {
     let codes = group_codes();
     let turned = TURNED;
@@ -105,7 +105,7 @@ fn group_by(table: &[u8; 16], w: u32) -> u64
 
 // The four groups of the lowest 16 bits of w, the earliest highest.
 fn four_groups(table: &[u8; 16], w: u32) -> u64
-    ensures { (result ≡ fourGroups table.now w) × (result < 2 ^ 24) }
+    ensures { (result ≡ four_groups table.now w) × (result < 2 ^ 24) }
 {
     group_by(table, w) * 0x8000
         + group_by(table, w >> 4) * 0x400
@@ -115,14 +115,14 @@ fn four_groups(table: &[u8; 16], w: u32) -> u64
 
 // The 40 bits of a channel's word by a table of groups, the earliest highest.
 pub fn bits_by(table: &[u8; 16], w: u32) -> u64
-    ensures { result ≡ eightGroups table.now w }
+    ensures { result ≡ eight_groups table.now w }
 {
     four_groups(table, w) * 0x10_0000 + four_groups(table, w >> 16)
 }
 
 // The same of one channel alone.
 pub fn channel_bits(w: u32) -> u64
-    ensures { result ≡ big (channelRow w) }
+    ensures { result ≡ big (channel_row w) }
 {
     let table = groups();
     bits_by(&table, w)
@@ -130,7 +130,7 @@ pub fn channel_bits(w: u32) -> u64
 
 // The table of commands.
 pub fn command_codes() -> [u16; 16]
-    ensures { result ≡ commandCodes }
+    ensures { result ≡ command_codes }
 {
     COMMANDS
 }
@@ -156,7 +156,7 @@ pub fn decode_group(g: u8) -> Group
 
 // The table of commands by their places, for an operation that lays it out once and lends it to its loops.
 pub fn command_places() -> [u16; 32]
-    ensures { result ≡ placedCommands }
+    ensures { result ≡ placed_commands }
 {
     PLACED
 }
@@ -176,7 +176,7 @@ fn wide_entry(x: u16) -> u64
 
 // The command that ten bits are by a table of places, or 16: one entry is looked at, which has the command's code in it.
 pub fn command_by(table: &[u16; 32], v: u64) -> u32
-    ensures { result ≡ commandBy table.now v }
+    ensures { result ≡ command_by table.now v }
 {
     let e = wide_entry(table[place_of(v)]);
     if e / 16 == v {
@@ -187,7 +187,7 @@ pub fn command_by(table: &[u16; 32], v: u64) -> u32
 
 // The same of ten bits alone.
 fn listed_command(v: u64) -> u32
-    ensures { result ≡ commandOf v }
+    ensures { result ≡ command_of v }
 {
     let table = command_places();
     command_by(&table, v)
@@ -195,7 +195,7 @@ fn listed_command(v: u64) -> u32
 
 // The command that ten bits are, or 16: the default sync at once, the others where their first half is one.
 pub fn command_of(v: u64) -> u32
-    ensures { result ≡ commandOf v }
+    ensures { result ≡ command_of v }
 {
     if v == SYNC {
         return 0;
@@ -210,7 +210,7 @@ pub fn command_of(v: u64) -> u32
 
 // The table of meanings.
 pub fn meanings() -> [u8; 32]
-    ensures { result ≡ meaningTable }
+    ensures { result ≡ meaning_table }
 {
     MEANT
 }
@@ -239,7 +239,7 @@ fn four_meanings(table: &[u8; 32], v: u64) -> Fours
 // The word of the lowest 40 bits of v by a table of meanings, the earliest bit highest; 2 ^ 32 where they are not all
 // data groups.
 pub fn word_by(table: &[u8; 32], v: u64) -> u64
-    ensures { result ≡ wordByTable table.now v }
+    ensures { result ≡ word_by_table table.now v }
 {
     let early = four_meanings(table, v >> 20);
     let late = four_meanings(table, v);
@@ -251,7 +251,7 @@ pub fn word_by(table: &[u8; 32], v: u64) -> u64
 
 // The channel of the lowest 40 bits of v, group by group.
 pub fn channel_of(v: u64) -> ChannelBits
-    ensures { result ≡ channelOf (bigBits 40 v) }
+    ensures { result ≡ channel_of (big_bits 40 v) }
 {
     let mut w: u32 = 0;
     let mut g: u32 = 0;
@@ -276,7 +276,7 @@ pub fn channel_of(v: u64) -> ChannelBits
 // The channel of the lowest 40 bits of v by a table of meanings; group by group only where one of them is no data
 // group.
 pub fn channel_by(table: &[u8; 32], v: u64) -> ChannelBits
-    ensures { result ≡ channelBy table.now v }
+    ensures { result ≡ channel_by table.now v }
 {
     let w = word_by(table, v);
     if w < 0x1_0000_0000 {

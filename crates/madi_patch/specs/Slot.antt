@@ -1,7 +1,7 @@
 -- One output slot of a patch between tenants: its verdict and its word. Assumes nothing.
 use Rattle.std.specs.Prelude.{◌≡◌, ◌⊎◌, ℕ, ◌<◌, Bool, true, ◌&&◌, List, eqb, ltb, get_or}
 use Rattle.bits.specs.Pick.{pick}
-use Rattle.subframe.specs.Body.{evenBody}
+use Rattle.subframe.specs.Body.{even_body}
 use Rattle.madi_code.specs.Frame.{cleared}
 use Rattle.madi_patch.specs.declared.SlotVerdict.{SlotVerdict}
 use Rattle.madi_patch.specs.declared.SlotVerdict.TheVariants.{Carried, None, Foreign, BadParity}
@@ -19,11 +19,11 @@ abbrev pub panel : ℕ → List ℕ → List ℕ → List ℕ → List ℕ → P
 panel active ins outs rows frame = record { active = active; ins = ins; outs = outs; rows = rows; frame = frame }
 
 -- the octet that says a verdict
-abbrev pub verdictOctet : SlotVerdict → ℕ
-verdictOctet Carried = 0
-verdictOctet None = 1
-verdictOctet Foreign = 2
-verdictOctet BadParity = 3
+abbrev pub verdict_octet : SlotVerdict → ℕ
+verdict_octet Carried = 0
+verdict_octet None = 1
+verdict_octet Foreign = 2
+verdict_octet BadParity = 3
 
 -- zero body, bits 2 and 3 zero
 abbrev pub silence : ℕ
@@ -41,25 +41,25 @@ module _ (p : Panel) (o : ℕ) where
   abbrev pub row_at : ℕ
   row_at = get_or p.rows o 0
 
-  abbrev pub namedWord : ℕ
-  namedWord = get_or p.frame row_at 0
+  abbrev pub named_word : ℕ
+  named_word = get_or p.frame row_at 0
 
   -- slots at or above the active count are none, as is a number that is no slot's
-  abbrev pub bothActive : Bool
-  bothActive = ltb o p.active && ltb row_at p.active
+  abbrev pub both_active : Bool
+  both_active = ltb o p.active && ltb row_at p.active
 
-  abbrev pub oneTenant : Bool
-  oneTenant = eqb (get_or p.ins row_at 0) (get_or p.outs o 0)
+  abbrev pub one_tenant : Bool
+  one_tenant = eqb (get_or p.ins row_at 0) (get_or p.outs o 0)
 
   -- the first that applies: none, foreign, bad parity
-  unfoldable pub slotVerdict : SlotVerdict
-  slotVerdict = pick bothActive (pick oneTenant (pick (evenBody namedWord) Carried BadParity) Foreign) None
+  unfoldable pub slot_verdict : SlotVerdict
+  slot_verdict = pick both_active (pick one_tenant (pick (even_body named_word) Carried BadParity) Foreign) None
 
-  abbrev pub slotOctet : ℕ
-  slotOctet = verdictOctet slotVerdict
+  abbrev pub slot_octet : ℕ
+  slot_octet = verdict_octet slot_verdict
 
-  unfoldable pub slotWord : ℕ
-  slotWord = heard slotVerdict namedWord
+  unfoldable pub slot_word : ℕ
+  slot_word = heard slot_verdict named_word
 
   -- ---- what is promised of it
 
@@ -68,7 +68,7 @@ module _ (p : Panel) (o : ℕ) where
     pub out-active : o < p.active
     pub in-active : row_at < p.active
     pub one-tenant : get_or p.ins row_at 0 ≡ get_or p.outs o 0
-    pub even : evenBody namedWord ≡ true
+    pub even : even_body named_word ≡ true
 
   -- silence, or the cleared word of an active input slot of the same owner
   abbrev pub Own : ℕ → Type 0

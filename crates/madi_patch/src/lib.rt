@@ -3,11 +3,11 @@
 ghost use Rattle.std.specs.Prelude.{◌≡◌, [], ◌∷◌, length};
 ghost use Rattle.bits.specs.Listed.{listed};
 ghost use Rattle.answer.specs.Answer.{verdict};
-ghost use Rattle.answer.specs.Said.{verdictSaid};
+ghost use Rattle.answer.specs.Said.{verdict_said};
 ghost use Rattle.madi_code.specs.Frame.{cleared};
-ghost use Rattle.madi_patch.specs.Slot.{panel, verdictOctet, slotVerdict, slotOctet, slotWord};
-ghost use Rattle.madi_patch.specs.Patch.{asLong, patchAnswer, frameAfter, verdictsAfter};
-ghost use Rattle.madi_patch.specs.Leased.{leasedAnswer, leasedFrame, leasedVerdicts};
+ghost use Rattle.madi_patch.specs.Slot.{panel, verdict_octet, slot_verdict, slot_octet, slot_word};
+ghost use Rattle.madi_patch.specs.Patch.{as_long, patch_answer, frame_after, verdicts_after};
+ghost use Rattle.madi_patch.specs.Leased.{leased_answer, leased_frame, leased_verdicts};
 ghost use Rattle.madi_patch.specs.Inner.{Reaches, Long};
 
 use answer::Verdict;
@@ -23,7 +23,7 @@ pub enum SlotVerdict {
 
 // The octet of a verdict.
 fn octet(v: SlotVerdict) -> u8
-    ensures { result ≡ verdictOctet v }
+    ensures { result ≡ verdict_octet v }
 {
     match v {
         SlotVerdict::Carried => 0,
@@ -43,7 +43,7 @@ fn judge(
     o: usize,
 ) -> SlotVerdict
     requires { Reaches (panel active ins.now outs.now rows.now frame.now) o }
-    ensures { result ≡ slotVerdict (panel active ins.now outs.now rows.now frame.now) o }
+    ensures { result ≡ slot_verdict (panel active ins.now outs.now rows.now frame.now) o }
 {
     if active <= o {
         return SlotVerdict::None;
@@ -79,8 +79,8 @@ fn word(
     v: SlotVerdict,
 ) -> u32
     requires reaches { Reaches (panel active ins.now outs.now rows.now frame.now) o }
-    requires v_value { v ≡ slotVerdict (panel active ins.now outs.now rows.now frame.now) o }
-    ensures { result ≡ slotWord (panel active ins.now outs.now rows.now frame.now) o }
+    requires v_value { v ≡ slot_verdict (panel active ins.now outs.now rows.now frame.now) o }
+    ensures { result ≡ slot_word (panel active ins.now outs.now rows.now frame.now) o }
 {
     match v {
         SlotVerdict::Carried => cleared_word(frame[rows[o] as usize]),
@@ -102,8 +102,8 @@ fn fill(
     verdicts: &mut [u8],
 )
     requires { Long channels (panel active ins.now outs.now rows.now frame.now) (length out.old) (length verdicts.old) }
-    ensures out_after { out.new ≡ listed 0 channels (slotWord (panel active ins.now outs.now rows.now frame.now)) }
-    ensures verdicts_after { verdicts.new ≡ listed 0 channels (slotOctet (panel active ins.now outs.now rows.now frame.now)) }
+    ensures out_after { out.new ≡ listed 0 channels (slot_word (panel active ins.now outs.now rows.now frame.now)) }
+    ensures verdicts_after { verdicts.new ≡ listed 0 channels (slot_octet (panel active ins.now outs.now rows.now frame.now)) }
 {
     let mut o = 0;
     while o < channels {
@@ -116,7 +116,7 @@ fn fill(
 
 // Whether each of six lengths is the channel count.
 fn as_long(channels: usize, a: usize, b: usize, c: usize, d: usize, e: usize, f: usize) -> bool
-    ensures { result ≡ asLong channels (a ∷ b ∷ c ∷ d ∷ e ∷ f ∷ []) }
+    ensures { result ≡ as_long channels (a ∷ b ∷ c ∷ d ∷ e ∷ f ∷ []) }
 {
     if a != channels {
         return false;
@@ -149,7 +149,7 @@ fn are_as_long(
     out: usize,
     verdicts: usize,
 ) -> bool
-    ensures { result ≡ asLong channels (length ins.now ∷ length outs.now ∷ length rows.now ∷ length frame.now ∷ out ∷ verdicts ∷ []) }
+    ensures { result ≡ as_long channels (length ins.now ∷ length outs.now ∷ length rows.now ∷ length frame.now ∷ out ∷ verdicts ∷ []) }
 {
     as_long(
         channels,
@@ -173,9 +173,9 @@ pub fn patch(
     out: &mut [u32],
     verdicts: &mut [u8],
 ) -> Verdict
-    ensures result_value { verdictSaid result ≡ verdict (patchAnswer channels (panel active ins.now outs.now rows.now frame.now) (length out.old) (length verdicts.old)) }
-    ensures out_after { out.new ≡ frameAfter channels (panel active ins.now outs.now rows.now frame.now) out.old verdicts.old }
-    ensures verdicts_after { verdicts.new ≡ verdictsAfter channels (panel active ins.now outs.now rows.now frame.now) out.old verdicts.old }
+    ensures result_value { verdict_said result ≡ verdict (patch_answer channels (panel active ins.now outs.now rows.now frame.now) (length out.old) (length verdicts.old)) }
+    ensures out_after { out.new ≡ frame_after channels (panel active ins.now outs.now rows.now frame.now) out.old verdicts.old }
+    ensures verdicts_after { verdicts.new ≡ verdicts_after channels (panel active ins.now outs.now rows.now frame.now) out.old verdicts.old }
 {
     if madi_code::is_counted(channels) {
         if 1 <= active {
@@ -209,9 +209,9 @@ pub fn patch_leased(
     out: &mut [u32],
     verdicts: &mut [u8],
 ) -> Verdict
-    ensures result_value { verdictSaid result ≡ verdict (leasedAnswer channels active leases.now rows.now frame.now (length out.old) (length verdicts.old)) }
-    ensures out_after { out.new ≡ leasedFrame channels active leases.now rows.now frame.now out.old verdicts.old }
-    ensures verdicts_after { verdicts.new ≡ leasedVerdicts channels active leases.now rows.now frame.now out.old verdicts.old }
+    ensures result_value { verdict_said result ≡ verdict (leased_answer channels active leases.now rows.now frame.now (length out.old) (length verdicts.old)) }
+    ensures out_after { out.new ≡ leased_frame channels active leases.now rows.now frame.now out.old verdicts.old }
+    ensures verdicts_after { verdicts.new ≡ leased_verdicts channels active leases.now rows.now frame.now out.old verdicts.old }
 {
     if madi_code::is_counted(channels) {
         if 1 <= active {

@@ -12,7 +12,7 @@ use Rattle.answer.specs.Demand.{AllMet}
 use Rattle.answer.proofs.Chains.{passed, passing}
 use Rattle.madi_code.specs.Frame.{counted}
 use Rattle.madi_code.proofs.FrameLaws.{counted-le}
-use Rattle.madi_read.specs.Reader.{carried, Frame, rowRead, readDemands, frameRead}
+use Rattle.madi_read.specs.Reader.{carried, Frame, row_read, read_demands, frame_read}
 
 pub record Accepted (channels level bits : ℕ) (line : List ℕ) (room places : ℕ) (f : Frame) : Type 0 where
   pub counts : counted channels ≡ true
@@ -23,13 +23,13 @@ pub record Accepted (channels level bits : ℕ) (line : List ℕ) (room places :
   pub exact : room ≡ channels
   pub listed : places ≡ 255
   pub spare : window (symbols line) bits (length line * 8 - bits) ≡ 0
-  pub read : rowRead (carried level bits line) channels ≡ accepted f
+  pub read : row_read (carried level bits line) channels ≡ accepted f
 
 module _ (channels level bits : ℕ) (line : List ℕ) (room places : ℕ) where
-  pub accepting : (f : Frame) → frameRead channels level bits line room places ≡ accepted f → Accepted channels level bits line room places f
-  unfolding frameRead
+  pub accepting : (f : Frame) → frame_read channels level bits line room places ≡ accepted f → Accepted channels level bits line room places f
+  unfolding frame_read
   accepting f e =
-      let p = passed (rowRead (carried level bits line) channels) (readDemands channels level bits line room places) f e in
+      let p = passed (row_read (carried level bits line) channels) (read_demands channels level bits line room places) f e in
       let m = p.0 in
       record {
         counts = m.0;
@@ -44,6 +44,6 @@ module _ (channels level bits : ℕ) (line : List ℕ) (room places : ℕ) where
       }
 
   -- where the demands are met, the answer is that of the bits
-  pub demands-met : AllMet (readDemands channels level bits line room places) → frameRead channels level bits line room places ≡ rowRead (carried level bits line) channels
-  unfolding frameRead
-  demands-met m = passing (rowRead (carried level bits line) channels) (readDemands channels level bits line room places) m
+  pub demands-met : AllMet (read_demands channels level bits line room places) → frame_read channels level bits line room places ≡ row_read (carried level bits line) channels
+  unfolding frame_read
+  demands-met m = passing (row_read (carried level bits line) channels) (read_demands channels level bits line room places) m

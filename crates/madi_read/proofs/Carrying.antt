@@ -4,10 +4,10 @@ use mathlib.Core.List.{List}
 use Prim.Native.Nat.{ℕ, ◌+◌, ◌*◌, ◌/◌, ◌^◌, ◌≤◌}
 use native.Mathlib.Omega.{arith}
 use lib.ListN.{length}
-use Rattle.bits.specs.Row.{Row, odd, bigBits, big}
+use Rattle.bits.specs.Row.{Row, odd, big_bits, big}
 use Rattle.bits.specs.Window.{part, window}
 use Rattle.bits.specs.Pack.{symbols}
-use Rattle.bits.proofs.Rows.{bigBits-big}
+use Rattle.bits.proofs.Rows.{big_bits-big}
 use Rattle.bits.proofs.Windows.{length_part, window-high}
 use Rattle.bits.proofs.Packing.{length-chain, highest}
 use Rattle.line.specs.Nrzi.{changes}
@@ -29,11 +29,11 @@ module _ (level bits : ℕ) (line : List ℕ) (long : bits ≤ length line * 8) 
 
   -- forty bits as a number: their row, and the first ten
   module _ (at v : ℕ) (h : at + 40 ≤ bits) (e : v ≡ window (changes (odd level) (symbols line)) at 40) where
-    pub forty : bigBits 40 v ≡ part (carried level bits line) at 40
+    pub forty : big_bits 40 v ≡ part (carried level bits line) at 40
     unfolding window
     forty =
         let r : Row = part (changes (odd level) (symbols line)) at 40 in
-        ap (bigBits 40) e ∙ (rw (length_part (changes (odd level) (symbols line)) at 40) at (bigBits-big r)) ∙ part-carried at 40 h
+        ap (big_bits 40) e ∙ (rw (length_part (changes (odd level) (symbols line)) at 40) at (big_bits-big r)) ∙ part-carried at 40 h
 
     pub first-ten : v / 2 ^ 30 ≡ window (carried level bits line) at 10
     first-ten =

@@ -8,13 +8,13 @@ use native.Mathlib.Nat.{zero-add, zero-div}
 use native.Mathlib.Omega.{arith}
 use lib.ListN.{length, get_or, get_or-eq_default}
 use lib.Seq.{ext_get_or}
-use Rattle.bits.specs.Row.{Row, odd, big, bigBits, Below}
+use Rattle.bits.specs.Row.{Row, odd, big, big_bits, Below}
 use Rattle.bits.specs.Window.{part, window}
 use Rattle.bits.specs.Pack.{octets, symbols}
 use Rattle.bits.proofs.Tests.{order}
-use Rattle.bits.proofs.Rows.{bigBits-big, getD-bigBits}
+use Rattle.bits.proofs.Rows.{big_bits-big, get_or-big_bits}
 use Rattle.bits.proofs.Windows.{length_part, get_d_part, part_same, part-all, window_same, window-past}
-use Rattle.bits.proofs.Packing.{length-chain, highest, length-pack, getD-pack, symbols-octets, octets-symbols}
+use Rattle.bits.proofs.Packing.{length-chain, highest, length-pack, get_or-pack, symbols-octets, octets-symbols}
 use Rattle.line.specs.Nrzi.{levels, changes}
 use Rattle.line.proofs.NrziLaws.{length-levels, changes-levels, levels-changes}
 use Rattle.madi_read.specs.Reader.{carried}
@@ -51,8 +51,8 @@ zero_bits : (r : Row) (at m k : ℕ) → window r at m ≡ 0 → k < m → get_o
 unfolding window
 zero_bits r at m k e h =
     sym (get_d_part r at m k h)
-    ∙ ap (λ (s : Row). get_or s k false) (sym (rw (length_part r at m) at (bigBits-big (part r at m))) ∙ ap (bigBits m) e)
-    ∙ getD-bigBits m 0 k h ∙ rw (zero-div (2 ^ (m - suc k)))
+    ∙ ap (λ (s : Row). get_or s k false) (sym (rw (length_part r at m) at (big_bits-big (part r at m))) ∙ ap (big_bits m) e)
+    ∙ get_or-big_bits m 0 k h ∙ rw (zero-div (2 ^ (m - suc k)))
 
 module _ (level bits : ℕ) (line : List ℕ) (octal : Below 256 line) (fits : bits ≤ length line * 8)
     (spare : window (symbols line) bits (length line * 8 - bits) ≡ 0) where
@@ -86,6 +86,6 @@ module _ (level bits : ℕ) (line : List ℕ) (octal : Below 256 line) (fits : b
           ext_get_or 0 (octets (length line) (part (symbols line) 0 bits)) (octets (length line) (symbols line))
           (length-pack big 8 (length line) (part (symbols line) 0 bits) ∙ sym (length-pack big 8 (length line) (symbols line)))
           (λ j l. let h : j < length line = omega (arith, length-pack big 8 (length line) (part (symbols line) 0 bits)) in
-          getD-pack big 8 (length line) (part (symbols line) 0 bits) j h
+          get_or-pack big 8 (length line) (part (symbols line) 0 bits) j h
           ∙ ap big (part_same (part (symbols line) 0 bits) (symbols line) (j * 8) (j * 8) 8 (λ k _. same_bit (j * 8 + k)))
-          ∙ sym (getD-pack big 8 (length line) (symbols line) j h))
+          ∙ sym (get_or-pack big 8 (length line) (symbols line) j h))

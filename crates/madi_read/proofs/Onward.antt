@@ -12,13 +12,13 @@ use Rattle.bits.specs.Pick.{pick}
 use Rattle.bits.specs.Row.{Row, big}
 use Rattle.bits.specs.Window.{part, window}
 use Rattle.bits.proofs.Windows.{length_part, window-high}
-use Rattle.madi_code.specs.Groups.{commandOf}
-use Rattle.madi_code.specs.Channels.{channelRow, channelOf}
+use Rattle.madi_code.specs.Groups.{command_of}
+use Rattle.madi_code.specs.Channels.{channel_row, channel_of}
 use Rattle.madi_code.specs.Frame.{boundary, synced}
 use Rattle.madi_code.specs.declared.ChannelBits.TheVariants.{Word}
 use Rattle.madi_code.proofs.ChannelLaws.{channel-only, groups-all, channel-no-command}
-use Rattle.madi_read.specs.Reader.{Frame, place_of, channelPiece, channelAt, end_of, commandPiece, piece_at}
-use Rattle.madi_read.specs.Inner.{sofar, shortPiece, Plain, Reached}
+use Rattle.madi_read.specs.Reader.{Frame, place_of, channel_piece, channel_at, end_of, command_piece, piece_at}
+use Rattle.madi_read.specs.Inner.{sofar, short_piece, Plain, Reached}
 use Rattle.madi_read.specs.declared.Piece.{Piece}
 use Rattle.madi_read.specs.declared.Piece.TheVariants.{End, Command, Channel}
 use Rattle.madi_read.specs.declared.Piece.TheVariants.{Refused as NoPiece}
@@ -27,17 +27,17 @@ use Rattle.madi_read.proofs.Walking.{read_step}
 -- ---- what stands at a boundary
 
 -- no channel begins with a command
-pub no-command : (r : Row) (at w : ℕ) → channelOf (part r at 40) ≡ Word w → commandOf (window r at 10) ≡ 16
+pub no-command : (r : Row) (at w : ℕ) → channel_of (part r at 40) ≡ Word w → command_of (window r at 10) ≡ 16
 unfolding window
 no-command r at w e =
     let only = channel-only (part r at 40) w (length_part r at 40) e in
-    ap commandOf (sym (sym (window-high (channelRow w) 0 10 30) ∙ ap (λ (x : ℕ). x / 2 ^ 30) (groups-all w ∙ ap big (sym only.1))
+    ap command_of (sym (sym (window-high (channel_row w) 0 10 30) ∙ ap (λ (x : ℕ). x / 2 ^ 30) (groups-all w ∙ ap big (sym only.1))
     ∙ window-high r at 10 30)) ∙ channel-no-command w
 
 module _ (r : Row) (channels : ℕ) (f : Frame) where
   -- a channel that is due and right in its place
-  pub piece-channel : (w : ℕ) → f.channels < channels → place_of f + 40 ≤ length r → channelOf (part r (place_of f) 40) ≡ Word w
-      → channelPiece f.channels f.active w ≡ Channel w → piece_at r channels f ≡ Channel w
+  pub piece-channel : (w : ℕ) → f.channels < channels → place_of f + 40 ≤ length r → channel_of (part r (place_of f) 40) ≡ Word w
+      → channel_piece f.channels f.active w ≡ Channel w → piece_at r channels f ≡ Channel w
   unfolding piece_at
   piece-channel w more fits word right =
       rw (
@@ -51,7 +51,7 @@ module _ (r : Row) (channels : ℕ) (f : Frame) where
       right
 
   -- a command that is not one too many
-  pub piece-command : (c : ℕ) → length f.commands < 255 → place_of f + 10 ≤ length r → c < 16 → commandOf (window r (place_of f) 10) ≡ c
+  pub piece-command : (c : ℕ) → length f.commands < 255 → place_of f + 10 ≤ length r → c < 16 → command_of (window r (place_of f) 10) ≡ c
       → piece_at r channels f ≡ Command c
   unfolding piece_at
   piece-command c few fits known e =
@@ -78,12 +78,12 @@ module _ (r : Row) (channels n active s bits : ℕ) (commands : List ℕ) (many 
   unfolding piece_at
   at-end e = rw (many, width, eq-eqb (boundary n s) bits e)
 
-  pub at-short : (boundary n s ≡ bits → ⊥) → bits < boundary n s + 40 → shortPiece r s (boundary n s) ≡ piece
+  pub at-short : (boundary n s ≡ bits → ⊥) → bits < boundary n s + 40 → short_piece r s (boundary n s) ≡ piece
   unfolding piece_at
   at-short apart h = rw (many, width, ne_eqb (boundary n s) bits apart, lt-ltb bits (boundary n s + 40) h)
 
   module _ (fits : boundary n s + 40 ≤ bits) where
-    pub at-word : (w : ℕ) → channelOf (part r (boundary n s) 40) ≡ Word w → pick (eqb n channels) (NoPiece 10 (boundary n s)) (channelPiece n active w) ≡ piece
+    pub at-word : (w : ℕ) → channel_of (part r (boundary n s) 40) ≡ Word w → pick (eqb n channels) (NoPiece 10 (boundary n s)) (channel_piece n active w) ≡ piece
     unfolding piece_at
     at-word w e =
         rw (
@@ -96,13 +96,13 @@ module _ (r : Row) (channels n active s bits : ℕ) (commands : List ℕ) (many 
           e,
         )
 
-    pub at-command : (c : ℕ) → c ≡ commandOf (window r (boundary n s) 10) → c < 16 → commandPiece c s (boundary n s) ≡ piece
+    pub at-command : (c : ℕ) → c ≡ command_of (window r (boundary n s) 10) → c < 16 → command_piece c s (boundary n s) ≡ piece
     unfolding piece_at
     at-command c e known =
         rw (many, width, ne_eqb (boundary n s) bits (λ q. absurd (omega arith)), le-leb (boundary n s + 10) bits (omega arith), ← e, lt-ltb c 16 known)
 
-    pub at-no-word : (c : ℕ) → c ≡ commandOf (window r (boundary n s) 10) → 16 ≤ c → (b : Row) → b ≡ part r (boundary n s) 40
-        → pick (eqb n channels) (NoPiece 10 (boundary n s)) (channelAt (boundary n s) n active (channelOf b)) ≡ piece
+    pub at-no-word : (c : ℕ) → c ≡ command_of (window r (boundary n s) 10) → 16 ≤ c → (b : Row) → b ≡ part r (boundary n s) 40
+        → pick (eqb n channels) (NoPiece 10 (boundary n s)) (channel_at (boundary n s) n active (channel_of b)) ≡ piece
     unfolding piece_at
     at-no-word c e none b same =
         rw (
@@ -122,7 +122,7 @@ module _ (r : Row) (channels n : ℕ) (commands : List ℕ) where
   abbrev here : ℕ
   here = boundary n (length commands)
 
-  plain-right : (w : ℕ) → 0 < n → Plain r here w → channelPiece n n w ≡ Channel w
+  plain-right : (w : ℕ) → 0 < n → Plain r here w → channel_piece n n w ≡ Channel w
   plain-right w some plain =
       let low : w / 1 % 2 ≡ 0 = rw div-one (omega arith) in
       let one : w / 2 % 2 ≡ 1 = omega arith in
@@ -139,7 +139,7 @@ module _ (r : Row) (channels n : ℕ) (commands : List ℕ) where
       (piece-channel r channels (sofar n n commands words) w more fits plain.0 (plain-right w some plain)) ∙ rw (one, two, k))
 
   -- a command more
-  pub command-on : (c active : ℕ) → n ≤ channels → length commands < 255 → here + 10 ≤ length r → c < 16 → commandOf (window r here 10) ≡ c
+  pub command-on : (c active : ℕ) → n ≤ channels → length commands < 255 → here + 10 ≤ length r → c < 16 → command_of (window r here 10) ≡ c
       → (words : List ℕ) → Reached r channels (sofar n active commands words) (sofar n active (commands ++ (c ∷ [])) words)
   command-on c active most few fits known e words =
       let k : channels + 256 - (n + length commands + 1) ≡ channels + 256 - (n + length (commands ++ (c ∷ []))) =

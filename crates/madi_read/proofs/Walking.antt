@@ -15,15 +15,15 @@ use Rattle.bits.specs.Window.{part, window}
 use Rattle.bits.proofs.Tests.{pick-cases, both_true}
 use Rattle.answer.specs.Answer.{Answer.accepted}
 use Rattle.answer.proofs.Chains.{not-both}
-use Rattle.subframe.specs.Body.{evenBody}
+use Rattle.subframe.specs.Body.{even_body}
 use Rattle.madi_code.specs.Frame.{synced}
-use Rattle.madi_code.specs.Groups.{commandCode, commandOf}
-use Rattle.madi_code.specs.Channels.{channelOf}
+use Rattle.madi_code.specs.Groups.{command_code, command_of}
+use Rattle.madi_code.specs.Channels.{channel_of}
 use Rattle.madi_code.specs.declared.ChannelBits.{ChannelBits}
 use Rattle.madi_code.specs.declared.ChannelBits.TheVariants.{Word, Broken}
 use Rattle.madi_code.proofs.GroupLaws.{command-only}
-use Rattle.madi_read.specs.Reader.{Frame, at_start, cleared, place_of, withCommand, withChannel, firstRight, activeRight, channelAt, isCommand}
-use Rattle.madi_read.specs.Reader.{piece_at, onward, read_on, rowRead}
+use Rattle.madi_read.specs.Reader.{Frame, at_start, cleared, place_of, with_command, with_channel, first_right, active_right, channel_at, is_command}
+use Rattle.madi_read.specs.Reader.{piece_at, onward, read_on, row_read}
 use Rattle.madi_read.specs.Inner.{sofar}
 use Rattle.madi_read.specs.declared.Piece.{Piece}
 use Rattle.madi_read.specs.declared.Piece.TheVariants.{End, Command, Channel}
@@ -33,21 +33,21 @@ use Rattle.madi_read.specs.declared.Piece.TheVariants.{Refused as NoPiece}
 abbrev pub Room : Row → ℕ → Frame → Piece → Type 0
 Room r channels f End = (f.channels ≡ channels) × (synced f.commands ≡ true) × (place_of f ≡ length r)
 Room r channels f (Command c) =
-    (length f.commands < 255) × (place_of f + 10 ≤ length r) × (c < 16) × (window r (place_of f) 10 ≡ commandCode c)
+    (length f.commands < 255) × (place_of f + 10 ≤ length r) × (c < 16) × (window r (place_of f) 10 ≡ command_code c)
 Room r channels f (Channel w) =
-    (f.channels ≡ channels → ⊥) × (place_of f + 40 ≤ length r) × (channelOf (part r (place_of f) 40) ≡ Word w)
-    × (firstRight f.channels w ≡ true) × (activeRight f.channels f.active w ≡ true) × (evenBody w ≡ true)
+    (f.channels ≡ channels → ⊥) × (place_of f + 40 ≤ length r) × (channel_of (part r (place_of f) 40) ≡ Word w)
+    × (first_right f.channels w ≡ true) × (active_right f.channels f.active w ≡ true) × (even_body w ≡ true)
 Room r channels f (NoPiece number place) = Unit {0}
 
 module _ (r : Row) (channels : ℕ) (f : Frame) where
-  channel-room : (f.channels ≡ channels → ⊥) → place_of f + 40 ≤ length r → (c : ChannelBits) → channelOf (part r (place_of f) 40) ≡ c
-      → Room r channels f (channelAt (place_of f) f.channels f.active c)
+  channel-room : (f.channels ≡ channels → ⊥) → place_of f + 40 ≤ length r → (c : ChannelBits) → channel_of (part r (place_of f) 40) ≡ c
+      → Room r channels f (channel_at (place_of f) f.channels f.active c)
   channel-room apart fits (Broken g) e = tt
   channel-room apart fits (Word w) e =
       let n = f.channels in
-      pick-cases (Room r channels f) (firstRight n w && activeRight n f.active w) (pick (evenBody w) (Channel w) (NoPiece 9 n)) (NoPiece 12 n)
-      (λ h. pick-cases (Room r channels f) (evenBody w) (Channel w) (NoPiece 9 n)
-      (λ k. let b = both_true (firstRight n w) (activeRight n f.active w) h in (apart, fits, e, b.0, b.1, k)) (λ k. tt)) (λ h. tt)
+      pick-cases (Room r channels f) (first_right n w && active_right n f.active w) (pick (even_body w) (Channel w) (NoPiece 9 n)) (NoPiece 12 n)
+      (λ h. pick-cases (Room r channels f) (even_body w) (Channel w) (NoPiece 9 n)
+      (λ k. let b = both_true (first_right n w) (active_right n f.active w) h in (apart, fits, e, b.0, b.1, k)) (λ k. tt)) (λ h. tt)
 
   pub room : Room r channels f (piece_at r channels f)
   unfolding piece_at
@@ -57,14 +57,14 @@ module _ (r : Row) (channels : ℕ) (f : Frame) where
       (λ e. pick-cases R (eqb f.channels channels && synced f.commands) End (NoPiece 10 (place_of f))
       (λ h. let b = both_true (eqb f.channels channels) (synced f.commands) h in
       (eqb-true f.channels channels b.0, b.1, eqb-true (place_of f) (length r) e)) (λ h. tt))
-      (λ e. pick-cases R (isCommand r (place_of f)) _ _
-      (λ h. pick-cases R (ltb (length f.commands) 255) (Command (commandOf next)) (NoPiece 10 (place_of f))
-      (λ k. let b = both_true (leb (place_of f + 10) (length r)) (ltb (commandOf next) 16) h in
-      let known : commandOf next < 16 = ltb-true (commandOf next) 16 b.1 in
+      (λ e. pick-cases R (is_command r (place_of f)) _ _
+      (λ h. pick-cases R (ltb (length f.commands) 255) (Command (command_of next)) (NoPiece 10 (place_of f))
+      (λ k. let b = both_true (leb (place_of f + 10) (length r)) (ltb (command_of next) 16) h in
+      let known : command_of next < 16 = ltb-true (command_of next) 16 b.1 in
       (ltb-true (length f.commands) 255 k, leb-true (place_of f + 10) (length r) b.0, known, sym (command-only next known))) (λ k. tt))
       (λ h. pick-cases R (ltb (length r) (place_of f + 40)) _ _ (λ k. tt)
       (λ k. pick-cases R (eqb f.channels channels) _ _ (λ m. tt)
-      (λ m. channel-room (eqb-false f.channels channels m) (ltb-false (length r) (place_of f + 40) k) (channelOf (part r (place_of f) 40)) refl))))
+      (λ m. channel-room (eqb-false f.channels channels m) (ltb-false (length r) (place_of f + 40) k) (channel_of (part r (place_of f) 40)) refl))))
     where
       R : Piece → Type 0
       R = Room r channels f
@@ -88,8 +88,8 @@ piece-any r channels n active commands words = refl
 
 module _ {ℓ} (r : Row) (channels : ℕ) (g : Frame) (P : Frame → Type ℓ)
     (at-end : Room r channels g End → P g)
-    (command-before : (f : Frame) (c : ℕ) → Room r channels f (Command c) → P (withCommand c f) → P f)
-    (channel-before : (f : Frame) (w : ℕ) → Room r channels f (Channel w) → P (withChannel w f) → P f) where
+    (command-before : (f : Frame) (c : ℕ) → Room r channels f (Command c) → P (with_command c f) → P f)
+    (channel-before : (f : Frame) (w : ℕ) → Room r channels f (Channel w) → P (with_channel w f) → P f) where
   backward : (k : ℕ) (f : Frame) → read_on r channels k f ≡ accepted g → P f
   unfolding read_on
   backward zero f e = not-both e
@@ -100,16 +100,16 @@ module _ {ℓ} (r : Row) (channels : ℕ) (g : Frame) (P : Frame → Type ℓ)
       by End q on e =
           let same : f ≡ g = cc in
           subst P (sym same) (at-end (subst (λ (x : Frame). Room r channels x End) same q))
-      by (Command c) q on e = command-before f c q (on (withCommand c f) e)
-      by (Channel w) q on e = channel-before f w q (on (withChannel w f) e)
+      by (Command c) q on e = command-before f c q (on (with_command c f) e)
+      by (Channel w) q on e = channel-before f w q (on (with_channel w f) e)
       by (NoPiece number place) q on e = not-both e
 
-  pub read_back : rowRead r channels ≡ accepted g → P at_start
-  unfolding rowRead
+  pub read_back : row_read r channels ≡ accepted g → P at_start
+  unfolding row_read
   read_back e = backward (channels + 256) at_start e
 
 -- a frame that is read has a word for each channel, and at most 255 commands
-pub frame-sizes : (r : Row) (channels : ℕ) (g : Frame) → rowRead r channels ≡ accepted g
+pub frame-sizes : (r : Row) (channels : ℕ) (g : Frame) → row_read r channels ≡ accepted g
     → (length g.words ≡ channels) × (length g.commands ≤ 255)
 frame-sizes r channels g e =
     read_back r channels g
@@ -118,6 +118,6 @@ frame-sizes r channels g e =
     (λ f v q on w s. on (omega (arith, length-append f.words (cleared v ∷ []), w)) s) e refl (omega arith)
 
 -- reading begins before the first unit
-pub from_start : (r : Row) (channels : ℕ) → rowRead r channels ≡ read_on r channels (channels + 256 - (0 + 0)) at_start
-unfolding rowRead
+pub from_start : (r : Row) (channels : ℕ) → row_read r channels ≡ read_on r channels (channels + 256 - (0 + 0)) at_start
+unfolding row_read
 from_start r channels = rw sub-zero

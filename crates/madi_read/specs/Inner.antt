@@ -4,11 +4,11 @@ use Rattle.bits.specs.Pick.{pick}
 use Rattle.bits.specs.Row.{Row}
 use Rattle.bits.specs.Window.{part, window}
 use Rattle.answer.specs.Answer.{Answer, Answer.accepted, Answer.refused}
-use Rattle.subframe.specs.Body.{evenBody}
-use Rattle.madi_code.specs.Groups.{commandOf}
-use Rattle.madi_code.specs.Channels.{channelOf}
+use Rattle.subframe.specs.Body.{even_body}
+use Rattle.madi_code.specs.Groups.{command_of}
+use Rattle.madi_code.specs.Channels.{channel_of}
 use Rattle.madi_code.specs.declared.ChannelBits.TheVariants.{Word}
-use Rattle.madi_read.specs.Reader.{Frame, isCommand, commandPiece, read_on, list_of}
+use Rattle.madi_read.specs.Reader.{Frame, is_command, command_piece, read_on, list_of}
 use Rattle.madi_read.specs.declared.Piece.{Piece}
 use Rattle.madi_read.specs.declared.Piece.TheVariants.{Refused as NoPiece}
 
@@ -17,8 +17,8 @@ abbrev pub sofar : ℕ → ℕ → List ℕ → List ℕ → Frame
 sofar n active commands words = record { channels = n; active = active; commands = commands; words = words }
 
 -- what stands at a boundary with fewer than 40 bits after it
-abbrev pub shortPiece : Row → ℕ → ℕ → Piece
-shortPiece r s at = pick (isCommand r at) (commandPiece (commandOf (window r at 10)) s at) (NoPiece 10 at)
+abbrev pub short_piece : Row → ℕ → ℕ → Piece
+short_piece r s at = pick (is_command r at) (command_piece (command_of (window r at 10)) s at) (NoPiece 10 at)
 
 -- s commands stand in a list of 255, and zeros after them
 abbrev pub Listed : ℕ → List ℕ → Type 0
@@ -31,7 +31,7 @@ Held channels (refused number place) held codes = Unit {0}
 
 -- the channel at a place is active, not the first of its frame, and even
 abbrev pub Plain : Row → ℕ → ℕ → Type 0
-Plain r at w = (channelOf (part r at 40) ≡ Word w) × (w % 4 ≡ 2) × (evenBody w ≡ true)
+Plain r at w = (channel_of (part r at 40) ≡ Word w) × (w % 4 ≡ 2) × (even_body w ≡ true)
 
 -- reading on from g, after some more pieces, gives what reading on from f gives
 abbrev pub Reached : Row → ℕ → Frame → Frame → Type 0

@@ -1,13 +1,13 @@
 // What stands at a boundary: the end of a frame, a command, a channel, or a refusal.
 ghost use Rattle.std.specs.Prelude.{◌≡◌, [], eqb, ◌*◌, ◌<◌, ◌≤◌, length, take};
 ghost use Rattle.bits.specs.Pick.{pick};
-ghost use Rattle.bits.specs.Row.{bigBits};
-ghost use Rattle.subframe.specs.Body.{evenBody};
+ghost use Rattle.bits.specs.Row.{big_bits};
+ghost use Rattle.subframe.specs.Body.{even_body};
 ghost use Rattle.madi_code.specs.Frame.{boundary};
-ghost use Rattle.madi_code.specs.Channels.{channelOf};
+ghost use Rattle.madi_code.specs.Channels.{channel_of};
 ghost use Rattle.madi_code.specs.Inner.{Means};
-ghost use Rattle.madi_read.specs.Reader.{carried, firstRight, activeRight, channelPiece, channelAt, end_of, commandPiece, piece_at};
-ghost use Rattle.madi_read.specs.Inner.{sofar, shortPiece};
+ghost use Rattle.madi_read.specs.Reader.{carried, first_right, active_right, channel_piece, channel_at, end_of, command_piece, piece_at};
+ghost use Rattle.madi_read.specs.Inner.{sofar, short_piece};
 ghost use Rattle.madi_read.specs.declared.Piece.TheVariants.{Channel as AChannel, Refused as NoPiece};
 
 use crate::{Piece, line_bits};
@@ -15,7 +15,7 @@ use madi_code::ChannelBits;
 
 // Bit 0 is set on channel 0 only.
 fn first_right(n: u32, w: u32) -> bool
-    ensures { result ≡ firstRight n w }
+    ensures { result ≡ first_right n w }
 {
     if n == 0 {
         return w % 2 == 1;
@@ -25,7 +25,7 @@ fn first_right(n: u32, w: u32) -> bool
 
 // An active channel follows the active ones without a gap; an inactive one is all zero.
 fn active_right(n: u32, active: u32, w: u32) -> bool
-    ensures { result ≡ activeRight n active w }
+    ensures { result ≡ active_right n active w }
 {
     if w / 2 % 2 == 1 {
         return n == active;
@@ -35,7 +35,7 @@ fn active_right(n: u32, active: u32, w: u32) -> bool
 
 // A channel's word whose required bits are right: its parity.
 fn even_piece(n: u32, w: u32) -> Piece
-    ensures { result ≡ pick (evenBody w) (AChannel w) (NoPiece 9 n) }
+    ensures { result ≡ pick (even_body w) (AChannel w) (NoPiece 9 n) }
 {
     if subframe::parity(w) == 0 {
         return Piece::Channel(w);
@@ -48,7 +48,7 @@ fn even_piece(n: u32, w: u32) -> Piece
 
 // A channel's word in its place: its required bits, then its parity.
 fn channel_piece(n: u32, active: u32, w: u32) -> Piece
-    ensures { result ≡ channelPiece n active w }
+    ensures { result ≡ channel_piece n active w }
 {
     if first_right(n, w) {
         if active_right(n, active, w) {
@@ -63,7 +63,7 @@ fn channel_piece(n: u32, active: u32, w: u32) -> Piece
 
 // A channel's word, where a channel is due.
 fn word_piece(channels: u32, n: u32, active: u32, w: u32, at: u32) -> Piece
-    ensures { result ≡ pick (eqb n channels) (NoPiece 10 at) (channelPiece n active w) }
+    ensures { result ≡ pick (eqb n channels) (NoPiece 10 at) (channel_piece n active w) }
 {
     if n == channels {
         return Piece::Refused {
@@ -77,7 +77,7 @@ fn word_piece(channels: u32, n: u32, active: u32, w: u32, at: u32) -> Piece
 // The same of 40 bits, group by group.
 fn no_word(channels: u32, n: u32, active: u32, v: u64, at: u32) -> Piece
     requires { at ≤ 5110 }
-    ensures { result ≡ pick (eqb n channels) (NoPiece 10 at) (channelAt at n active (channelOf (bigBits 40 v))) }
+    ensures { result ≡ pick (eqb n channels) (NoPiece 10 at) (channel_at at n active (channel_of (big_bits 40 v))) }
 {
     if n == channels {
         return Piece::Refused {
@@ -112,7 +112,7 @@ fn end_of(channels: u32, came: u32, codes: &[u8], s: u32, at: u32) -> Piece
 
 // A command after s of them: a 256th is one too many.
 fn command_piece(c: u32, s: u32, at: u32) -> Piece
-    ensures { result ≡ commandPiece c s at }
+    ensures { result ≡ command_piece c s at }
 {
     if s < 255 {
         return Piece::Command(c);
@@ -126,7 +126,7 @@ fn command_piece(c: u32, s: u32, at: u32) -> Piece
 // What stands where fewer than 40 bits are left, and at least one: a command, or no whole unit.
 fn short_piece(line: &[u8], level: u32, bits: u32, s: u32, at: u32) -> Piece
     requires { (level ≤ 1) × (bits ≤ 5110) × (bits ≤ length line.now * 8) × (at < bits) }
-    ensures { result ≡ shortPiece (carried level bits line.now) s at }
+    ensures { result ≡ short_piece (carried level bits line.now) s at }
 {
     if at + 10 <= bits {
         let c = madi_code::command_of(line_bits::bits_at(line, level, at as usize, 10));

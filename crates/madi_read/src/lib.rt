@@ -3,8 +3,8 @@ ghost use Rattle.std.specs.Prelude.{◌≡◌, ◌&&◌, ◌+◌, ◌*◌, ◌/�
 ghost use Rattle.bits.specs.Row.{bit};
 ghost use Rattle.answer.specs.Answer.{mapped, after};
 ghost use Rattle.madi_code.specs.Frame.{counted};
-ghost use Rattle.madi_read.specs.Reader.{carried, cleared as wordCleared, rowRead, spareZero, frameRead, countsOf, words_of};
-ghost use Rattle.madi_read.specs.Reader.{commandsOf, frameSaid};
+ghost use Rattle.madi_read.specs.Reader.{carried, cleared as word_cleared, row_read, spare_zero, frame_read, counts_of, words_of};
+ghost use Rattle.madi_read.specs.Reader.{commands_of, frame_said};
 ghost use Rattle.madi_read.specs.Inner.{Listed, Held};
 
 mod at_boundary;
@@ -31,7 +31,7 @@ pub enum ReadAnswer {
 
 // A word without its marks, bits 0 and 1.
 fn cleared(w: u32) -> u32
-    ensures { result ≡ wordCleared w }
+    ensures { result ≡ word_cleared w }
 {
     w - w % 4
 }
@@ -60,8 +60,8 @@ fn walk(
     codes: &mut [u8],
 ) -> ReadAnswer
     requires { (level ≤ 1) × (bits ≤ 5110) × (bits ≤ length line.now * 8) × (channels ≤ 64) × (length held.old ≡ 64) × Listed 0 codes.old }
-    ensures result_value { frameSaid result ≡ mapped countsOf (rowRead (carried level bits line.now) channels) }
-    ensures held { Held channels (rowRead (carried level bits line.now) channels) held.new codes.new }
+    ensures result_value { frame_said result ≡ mapped counts_of (row_read (carried level bits line.now) channels) }
+    ensures held { Held channels (row_read (carried level bits line.now) channels) held.new codes.new }
 {
     let table = madi_code::meanings();
     let mut n: u32 = 0;
@@ -99,7 +99,7 @@ fn walk(
 // Whether the unused bits of the last octet are 0.
 fn spare_zero(bits: u32, line: &[u8]) -> bool
     requires { (bits ≤ 5110) × (length line.now ≡ (bits + 7) / 8) }
-    ensures { result ≡ spareZero bits line.now }
+    ensures { result ≡ spare_zero bits line.now }
 {
     line::load(line, bits as usize, line.len() * 8 - bits as usize) == 0
 }
@@ -114,9 +114,9 @@ fn read_checked(
     commands: &mut [u8],
 ) -> ReadAnswer
     requires { (level ≤ 1) × (bits ≤ 5110) × (bits ≤ length line.now * 8) × (channels ≤ 64) × (length words.old ≡ channels) × (length commands.old ≡ 255) }
-    ensures result_value { frameSaid result ≡ mapped countsOf (rowRead (carried level bits line.now) channels) }
-    ensures words_after { words.new ≡ after words_of (rowRead (carried level bits line.now) channels) words.old }
-    ensures commands_after { commands.new ≡ after commandsOf (rowRead (carried level bits line.now) channels) commands.old }
+    ensures result_value { frame_said result ≡ mapped counts_of (row_read (carried level bits line.now) channels) }
+    ensures words_after { words.new ≡ after words_of (row_read (carried level bits line.now) channels) words.old }
+    ensures commands_after { commands.new ≡ after commands_of (row_read (carried level bits line.now) channels) commands.old }
 {
     let mut held = [0u32; 64];
     let mut codes = no_commands();
@@ -171,9 +171,9 @@ pub fn read_frame(
     words: &mut [u32],
     commands: &mut [u8],
 ) -> ReadAnswer
-    ensures result_value { frameSaid result ≡ mapped countsOf (frameRead channels level bits line.now (length words.old) (length commands.old)) }
-    ensures words_after { words.new ≡ after words_of (frameRead channels level bits line.now (length words.old) (length commands.old)) words.old }
-    ensures commands_after { commands.new ≡ after commandsOf (frameRead channels level bits line.now (length words.old) (length commands.old)) commands.old }
+    ensures result_value { frame_said result ≡ mapped counts_of (frame_read channels level bits line.now (length words.old) (length commands.old)) }
+    ensures words_after { words.new ≡ after words_of (frame_read channels level bits line.now (length words.old) (length commands.old)) words.old }
+    ensures commands_after { commands.new ≡ after commands_of (frame_read channels level bits line.now (length words.old) (length commands.old)) commands.old }
 {
     if numbers_right(channels, level, bits) {
         if lengths_right(channels, bits, line.len(), words.len(), commands.len()) {

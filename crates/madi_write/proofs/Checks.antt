@@ -12,10 +12,10 @@ use Rattle.bits.proofs.Tests.{both_true, order}
 use Rattle.answer.specs.Answer.{Answer.accepted}
 use Rattle.answer.specs.Demand.{AllMet, ◌&◌}
 use Rattle.answer.proofs.Chains.{met, passing}
-use Rattle.subframe.specs.Body.{parityOf, evenBody}
+use Rattle.subframe.specs.Body.{parity_of, even_body}
 use Rattle.madi_code.specs.Frame.{counted, numbered, synced}
 use Rattle.madi_code.proofs.FrameLaws.{counted-le, synced-some}
-use Rattle.madi_write.specs.Writer.{needed, frameOctets, isList, channelWordDemands, writeDemands, frameWritten}
+use Rattle.madi_write.specs.Writer.{needed, frame_octets, is_list, channel_word_demands, write_demands, frame_written}
 use Rattle.madi_write.specs.Inner.{Sound}
 
 not-not : (t : Bool) → not t ≡ false → t ≡ true
@@ -25,8 +25,8 @@ not-not false e = sym e
 -- ---- a list of commands
 
 -- what it is
-pub list_of : (commands : List ℕ) → isList commands ≡ true → (length commands ≤ 255) × (numbered commands ≡ true) × (synced commands ≡ true)
-unfolding isList
+pub list_of : (commands : List ℕ) → is_list commands ≡ true → (length commands ≤ 255) × (numbered commands ≡ true) × (synced commands ≡ true)
+unfolding is_list
 list_of commands e =
     let n = length commands in
     let b = both_true (leb 1 n && leb n 255) (numbered commands && synced commands) e in
@@ -34,8 +34,8 @@ list_of commands e =
     (leb-true n 255 (both_true (leb 1 n) (leb n 255) b.0).1, c.0, c.1)
 
 -- what makes one
-pub list_right : (commands : List ℕ) → length commands ≤ 255 → numbered commands ≡ true → synced commands ≡ true → isList commands ≡ true
-unfolding isList
+pub list_right : (commands : List ℕ) → length commands ≤ 255 → numbered commands ≡ true → synced commands ≡ true → is_list commands ≡ true
+unfolding is_list
 list_right commands short named with-sync =
     rw (le-leb 1 (length commands) (synced-some commands with-sync), le-leb (length commands) 255 short, named, with-sync)
 
@@ -51,11 +51,11 @@ pub record Writable (channels : ℕ) (words commands : List ℕ) (level room : �
   pub with-sync : synced commands ≡ true
   pub digital : level ≤ 1
   pub fits : needed channels (length commands) ≤ room
-  pub even : (i : ℕ) → i < length words → evenBody (get_or words i 0) ≡ true
+  pub even : (i : ℕ) → i < length words → even_body (get_or words i 0) ≡ true
   -- past the end of the words too
   pub clean : (k : ℕ) → get_or words k 0 % 4 ≡ 0
 
-pub writable : (channels : ℕ) (words commands : List ℕ) (level room : ℕ) → AllMet (writeDemands channels words commands level room)
+pub writable : (channels : ℕ) (words commands : List ℕ) (level room : ℕ) → AllMet (write_demands channels words commands level room)
     → Writable channels words commands level room
 writable channels words commands level room m =
     let l = list_of commands m.1.1.1.0 in
@@ -69,7 +69,7 @@ writable channels words commands level room m =
       with-sync = l.2;
       digital = leb-true level 1 m.1.1.1.1.0;
       fits = leb-true (needed channels (length commands)) room m.1.1.1.1.1.0;
-      even = λ i h. not-not (evenBody (get_or words i 0)) (m.1.1.1.1.1.1.0 i (omega arith) (omega arith));
+      even = λ i h. not-not (even_body (get_or words i 0)) (m.1.1.1.1.1.1.0 i (omega arith) (omega arith));
       clean = λ k. ⊎_elim (λ (past : length words ≤ k). ap (λ (w : ℕ). w % 4) (get_or-eq_default words 0 {n = k} past))
           (λ (l : k < length words). eqb-true (get_or words k 0 % 4) 0
           (not-not (eqb (get_or words k 0 % 4) 0) (m.1.1.1.1.1.1.1.0 k (omega arith) (omega arith)))) (order (length words) k);
@@ -77,32 +77,32 @@ writable channels words commands level room m =
 
 -- ---- and where no word breaks a rule
 
-pub sound-met : (words : List ℕ) → Sound words → AllMet (channelWordDemands words)
+pub sound-met : (words : List ℕ) → Sound words → AllMet (channel_word_demands words)
 sound-met words sound =
     (λ i l h. ap not (sound i (omega arith)).0) & (λ i l h. ap not (eq-eqb (get_or words i 0 % 4) 0 (sound i (omega arith)).1)) & tt
 
 -- one word more
-pub sound_more : (words : List ℕ) (i p : ℕ) → p ≡ parityOf (get_or words i 0)
-    → ((k : ℕ) → k < i → (evenBody (get_or words k 0) ≡ true) × (get_or words k 0 % 4 ≡ 0))
-    → p + get_or words i 0 % 4 ≡ 0 → (k : ℕ) → k < i + 1 → (evenBody (get_or words k 0) ≡ true) × (get_or words k 0 % 4 ≡ 0)
+pub sound_more : (words : List ℕ) (i p : ℕ) → p ≡ parity_of (get_or words i 0)
+    → ((k : ℕ) → k < i → (even_body (get_or words k 0) ≡ true) × (get_or words k 0 % 4 ≡ 0))
+    → p + get_or words i 0 % 4 ≡ 0 → (k : ℕ) → k < i + 1 → (even_body (get_or words k 0) ≡ true) × (get_or words k 0 % 4 ≡ 0)
 sound_more words i p e before z k h =
-    ⊎_elim (λ (l : i ≤ k). let same : i ≡ k = omega arith in subst (λ (j : ℕ). (evenBody (get_or words j 0) ≡ true) × (get_or words j 0 % 4 ≡ 0)) same here)
+    ⊎_elim (λ (l : i ≤ k). let same : i ≡ k = omega arith in subst (λ (j : ℕ). (even_body (get_or words j 0) ≡ true) × (get_or words j 0 % 4 ≡ 0)) same here)
     (λ (l : k < i). before k l) (order i k)
   where
-    here : (evenBody (get_or words i 0) ≡ true) × (get_or words i 0 % 4 ≡ 0)
-    here = (eq-eqb (parityOf (get_or words i 0)) 0 (omega arith), omega arith)
+    here : (even_body (get_or words i 0) ≡ true) × (get_or words i 0 % 4 ≡ 0)
+    here = (eq-eqb (parity_of (get_or words i 0)) 0 (omega arith), omega arith)
 
 -- ---- accepted exactly if all demands are met
 
 module _ (channels : ℕ) (words commands : List ℕ) (level room : ℕ) where
-  pub frame-accepted : AllMet (writeDemands channels words commands level room)
-      → frameWritten channels words commands level room ≡ accepted (frameOctets channels words commands level)
-  unfolding frameWritten
-  frame-accepted m = passing (accepted (frameOctets channels words commands level)) (writeDemands channels words commands level room) m
+  pub frame-accepted : AllMet (write_demands channels words commands level room)
+      → frame_written channels words commands level room ≡ accepted (frame_octets channels words commands level)
+  unfolding frame_written
+  frame-accepted m = passing (accepted (frame_octets channels words commands level)) (write_demands channels words commands level room) m
 
-  pub accepted-frame : (line : List ℕ) → frameWritten channels words commands level room ≡ accepted line
-      → Writable channels words commands level room × (frameOctets channels words commands level ≡ line)
-  unfolding frameWritten
+  pub accepted-frame : (line : List ℕ) → frame_written channels words commands level room ≡ accepted line
+      → Writable channels words commands level room × (frame_octets channels words commands level ≡ line)
+  unfolding frame_written
   accepted-frame line e =
-      let m = met (frameOctets channels words commands level) (writeDemands channels words commands level room) e in
+      let m = met (frame_octets channels words commands level) (write_demands channels words commands level room) e in
       (writable channels words commands level room m.0, m.1)

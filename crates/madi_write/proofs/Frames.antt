@@ -16,17 +16,17 @@ use Rattle.bits.specs.Row.{Row, odd, big}
 use Rattle.bits.specs.Window.{part, window}
 use Rattle.bits.specs.Pack.{chain, octets}
 use Rattle.bits.proofs.Tests.{order}
-use Rattle.bits.proofs.Rows.{length-bigBits, big-bigBits}
+use Rattle.bits.proofs.Rows.{length-big_bits, big-big_bits}
 use Rattle.bits.proofs.Windows.{window-split, window-lt}
 use Rattle.bits.proofs.Chains.{part-first, part-second, length-chained, part-chained}
 use Rattle.line.specs.Nrzi.{levels}
-use Rattle.madi_code.specs.Groups.{commandCode, commandRow}
-use Rattle.madi_code.specs.Channels.{channelRow}
+use Rattle.madi_code.specs.Groups.{command_code, command_row}
+use Rattle.madi_code.specs.Channels.{channel_row}
 use Rattle.madi_code.specs.Frame.{boundary}
 use Rattle.madi_code.proofs.ChannelLaws.{length-channel}
 use Rattle.madi_code.proofs.GroupLaws.{command-small}
-use Rattle.madi_write.specs.Writer.{marked, channelWords, frameRow, needed, frameOctets}
-use Rattle.madi_write.specs.Inner.{sentWord, commandsNumber, block_of}
+use Rattle.madi_write.specs.Writer.{marked, channel_words, frame_row, needed, frame_octets}
+use Rattle.madi_write.specs.Inner.{sent_word, commands_number, block_of}
 
 -- ---- the channels' words
 
@@ -46,14 +46,14 @@ marked-at [] b h = absurd (omega arith)
 marked-at (w ∷ ws) zero h = refl
 marked-at (w ∷ ws) (suc b) h = rw (ne_eqb (suc b) 0 (λ e. omega arith)) (more-at ws b (omega arith))
 
-pub length-words : (channels : ℕ) (words : List ℕ) → length words ≤ channels → length (channelWords channels words) ≡ channels
-unfolding channelWords
+pub length-words : (channels : ℕ) (words : List ℕ) → length words ≤ channels → length (channel_words channels words) ≡ channels
+unfolding channel_words
 length-words channels words h =
     length-append (marked words) (replicate (channels - length words) 0)
     ∙ omega (arith, length_marked words, length-replicate {A = ℕ} (channels - length words) 0)
 
-pub word_at : (channels : ℕ) (words : List ℕ) (b : ℕ) → b < channels → get_or (channelWords channels words) b 0 ≡ sentWord words b
-unfolding channelWords sentWord
+pub word_at : (channels : ℕ) (words : List ℕ) (b : ℕ) → b < channels → get_or (channel_words channels words) b 0 ≡ sent_word words b
+unfolding channel_words sent_word
 word_at channels words b hb = ⊎_elim idle active (order (length words) b)
   where
     active : b < length words → get_or (marked words ++ replicate (channels - length words) 0) b 0 ≡ pick (ltb b (length words)) (get_or words b 0 + pick (eqb b 0) 3 2) 0
@@ -69,113 +69,113 @@ word_at channels words b hb = ⊎_elim idle active (order (length words) b)
         ∙ get_or-replicate (channels - length words) (b - length words) 0 0 (omega arith) ∙ rw (le-ltb b (length words) h)
 
 -- the word of an active channel, and of one that is not
-pub sent-active : (words : List ℕ) (n : ℕ) → n < length words → sentWord words n ≡ get_or words n 0 + pick (eqb n 0) 3 2
-unfolding sentWord
+pub sent-active : (words : List ℕ) (n : ℕ) → n < length words → sent_word words n ≡ get_or words n 0 + pick (eqb n 0) 3 2
+unfolding sent_word
 sent-active words n h = rw (lt-ltb n (length words) h)
 
-pub sent-idle : (words : List ℕ) (n : ℕ) → length words ≤ n → sentWord words n ≡ 0
-unfolding sentWord
+pub sent-idle : (words : List ℕ) (n : ℕ) → length words ≤ n → sent_word words n ≡ 0
+unfolding sent_word
 sent-idle words n h = rw (le-ltb n (length words) h)
 
 pub marked-words : (w : ℕ) (ws : List ℕ) → marked (w ∷ ws) ≡ (w + 3) ∷ map (λ v. v + 2) ws
 unfolding marked
 marked-words w ws = refl
 
-pub all_words : (channels : ℕ) (words : List ℕ) → channelWords channels words ≡ marked words ++ replicate (channels - length words) 0
-unfolding channelWords
+pub all_words : (channels : ℕ) (words : List ℕ) → channel_words channels words ≡ marked words ++ replicate (channels - length words) 0
+unfolding channel_words
 all_words channels words = refl
 
 -- ---- the commands
 
-abbrev pub commandsRow : List ℕ → Row
-commandsRow commands = chain commandRow commands
+abbrev pub commands_row : List ℕ → Row
+commands_row commands = chain command_row commands
 
-length-command : (c : ℕ) → length (commandRow c) ≡ 10
-length-command c = length-bigBits 10 (commandCode c)
+length-command : (c : ℕ) → length (command_row c) ≡ 10
+length-command c = length-big_bits 10 (command_code c)
 
-pub length-commands : (commands : List ℕ) → length (commandsRow commands) ≡ 10 * length commands
-length-commands commands = length-chained commandRow 10 length-command commands ∙ mul_comm (length commands) 10
+pub length-commands : (commands : List ℕ) → length (commands_row commands) ≡ 10 * length commands
+length-commands commands = length-chained command_row 10 length-command commands ∙ mul_comm (length commands) 10
 
-one-command : (commands : List ℕ) (i : ℕ) → i < length commands → window (commandsRow commands) (10 * i) 10 ≡ commandCode (get_or commands i 0)
+one-command : (commands : List ℕ) (i : ℕ) → i < length commands → window (commands_row commands) (10 * i) 10 ≡ command_code (get_or commands i 0)
 unfolding window
 one-command commands i h =
     let c : ℕ = get_or commands i 0 in
-    ap (λ (p : ℕ). big (part (commandsRow commands) p 10)) (mul_comm 10 i)
-    ∙ ap big (part-chained commandRow 10 length-command commands i h) ∙ big-bigBits 10 (commandCode c) ∙ mod-eq_of_lt (command-small c)
+    ap (λ (p : ℕ). big (part (commands_row commands) p 10)) (mul_comm 10 i)
+    ∙ ap big (part-chained command_row 10 length-command commands i h) ∙ big-big_bits 10 (command_code c) ∙ mod-eq_of_lt (command-small c)
 
 pub commands-window : (commands : List ℕ) (i k : ℕ) → i + k ≤ length commands
-    → window (commandsRow commands) (10 * i) (10 * k) ≡ commandsNumber commands i k
-unfolding commandsNumber window part big
+    → window (commands_row commands) (10 * i) (10 * k) ≡ commands_number commands i k
+unfolding commands_number window part big
 commands-window commands i zero h = refl
 commands-window commands i (suc k) h =
     let n : 10 * suc k ≡ 10 * k + 10 = omega arith in
     let p : 10 * i + 10 * k ≡ 10 * (i + k) = omega arith in
-    ap (window (commandsRow commands) (10 * i)) n ∙ window-split (commandsRow commands) (10 * i) (10 * k) 10
+    ap (window (commands_row commands) (10 * i)) n ∙ window-split (commands_row commands) (10 * i) (10 * k) 10
     ∙ ap₂ (λ (x y : ℕ). x * 2 ^ 10 + y) (commands-window commands i k (omega arith))
-    (ap (λ (q : ℕ). window (commandsRow commands) q 10) p ∙ one-command commands (i + k) (omega arith))
+    (ap (λ (q : ℕ). window (commands_row commands) q 10) p ∙ one-command commands (i + k) (omega arith))
 
 pub commands-next : (commands : List ℕ) (i k : ℕ)
-    → commandsNumber commands i k * 2 ^ 10 + commandCode (get_or commands (i + k) 0) ≡ commandsNumber commands i (k + 1)
-unfolding commandsNumber
-commands-next commands i k = ap (commandsNumber commands i) (sym (add-one k))
+    → commands_number commands i k * 2 ^ 10 + command_code (get_or commands (i + k) 0) ≡ commands_number commands i (k + 1)
+unfolding commands_number
+commands-next commands i k = ap (commands_number commands i) (sym (add-one k))
 
-pub commands-none : (commands : List ℕ) (i : ℕ) → commandsNumber commands i 0 ≡ 0
-unfolding commandsNumber
+pub commands-none : (commands : List ℕ) (i : ℕ) → commands_number commands i 0 ≡ 0
+unfolding commands_number
 commands-none commands i = refl
 
 -- four of them are forty bits
-pub commands-lt : (commands : List ℕ) (i k : ℕ) → k ≤ 4 → i + k ≤ length commands → commandsNumber commands i k < 2 ^ 40
+pub commands-lt : (commands : List ℕ) (i k : ℕ) → k ≤ 4 → i + k ≤ length commands → commands_number commands i k < 2 ^ 40
 commands-lt commands i k h fits =
-    omega (arith, commands-window commands i k fits, window-lt (commandsRow commands) (10 * i) (10 * k), pow_mono {i = 10 * k} {j = 40} (omega arith))
+    omega (arith, commands-window commands i k fits, window-lt (commands_row commands) (10 * i) (10 * k), pow_mono {i = 10 * k} {j = 40} (omega arith))
 
 -- ---- the frame
 
-pub frame_row : (channels : ℕ) (words commands : List ℕ)
-    → frameRow channels words commands ≡ chain channelRow (channelWords channels words) ++ commandsRow commands
-unfolding frameRow
-frame_row channels words commands = refl
+pub frame_row_lem : (channels : ℕ) (words commands : List ℕ)
+    → frame_row channels words commands ≡ chain channel_row (channel_words channels words) ++ commands_row commands
+unfolding frame_row
+frame_row_lem channels words commands = refl
 
 pub frame-octets : (channels : ℕ) (words commands : List ℕ) (level : ℕ)
-    → frameOctets channels words commands level ≡ octets (needed channels (length commands)) (levels (odd level) (frameRow channels words commands))
-unfolding frameOctets
+    → frame_octets channels words commands level ≡ octets (needed channels (length commands)) (levels (odd level) (frame_row channels words commands))
+unfolding frame_octets
 frame-octets channels words commands level = refl
 
 module _ (channels : ℕ) (words commands : List ℕ) (most : length words ≤ channels) where
-  length-channels : length (chain channelRow (channelWords channels words)) ≡ 40 * channels
+  length-channels : length (chain channel_row (channel_words channels words)) ≡ 40 * channels
   length-channels =
-      length-chained channelRow 40 length-channel (channelWords channels words) ∙ omega (arith, length-words channels words most)
+      length-chained channel_row 40 length-channel (channel_words channels words) ∙ omega (arith, length-words channels words most)
 
-  pub length-frame : length (frameRow channels words commands) ≡ boundary channels (length commands)
-  unfolding frameRow
+  pub length-frame : length (frame_row channels words commands) ≡ boundary channels (length commands)
+  unfolding frame_row
   length-frame =
-      length-append (chain channelRow (channelWords channels words)) (commandsRow commands) ∙ ap₂ (λ (x y : ℕ). x + y) length-channels (length-commands commands)
+      length-append (chain channel_row (channel_words channels words)) (commands_row commands) ∙ ap₂ (λ (x y : ℕ). x + y) length-channels (length-commands commands)
 
   -- channel b stands in the 40 bits from bit 40 b on
-  pub frame-channel : (b : ℕ) → b < channels → part (frameRow channels words commands) (40 * b) 40 ≡ channelRow (get_or (channelWords channels words) b 0)
-  unfolding frameRow
+  pub frame-channel : (b : ℕ) → b < channels → part (frame_row channels words commands) (40 * b) 40 ≡ channel_row (get_or (channel_words channels words) b 0)
+  unfolding frame_row
   frame-channel b h =
-      part-first (chain channelRow (channelWords channels words)) (commandsRow commands) (40 * b) 40 (omega (arith, length-channels))
-      ∙ ap (λ (p : ℕ). part (chain channelRow (channelWords channels words)) p 40) (mul_comm 40 b)
-      ∙ part-chained channelRow 40 length-channel (channelWords channels words) b (omega (arith, length-words channels words most))
+      part-first (chain channel_row (channel_words channels words)) (commands_row commands) (40 * b) 40 (omega (arith, length-channels))
+      ∙ ap (λ (p : ℕ). part (chain channel_row (channel_words channels words)) p 40) (mul_comm 40 b)
+      ∙ part-chained channel_row 40 length-channel (channel_words channels words) b (omega (arith, length-words channels words most))
 
   -- and the commands after the last channel
   pub frame-commands : (i k : ℕ) → i + k ≤ length commands
-      → window (frameRow channels words commands) (40 * channels + 10 * i) (10 * k) ≡ commandsNumber commands i k
-  unfolding frameRow window
+      → window (frame_row channels words commands) (40 * channels + 10 * i) (10 * k) ≡ commands_number commands i k
+  unfolding frame_row window
   frame-commands i k h =
-      ap big (part-second (chain channelRow (channelWords channels words)) (commandsRow commands) (40 * channels) (10 * i) (10 * k) length-channels)
+      ap big (part-second (chain channel_row (channel_words channels words)) (commands_row commands) (40 * channels) (10 * i) (10 * k) length-channels)
       ∙ commands-window commands i k h
 
-  pub block-window : (b : ℕ) → 40 * b + 40 ≤ boundary channels (length commands) → window (frameRow channels words commands) (40 * b) 40 ≡ block_of channels words commands b
+  pub block-window : (b : ℕ) → 40 * b + 40 ≤ boundary channels (length commands) → window (frame_row channels words commands) (40 * b) 40 ≡ block_of channels words commands b
   unfolding window block_of
   block-window b fits = ⊎_elim after before (order channels b)
     where
-      before : b < channels → big (part (frameRow channels words commands) (40 * b) 40) ≡ pick (ltb b channels) (big (channelRow (sentWord words b))) (commandsNumber commands (4 * (b - channels)) 4)
+      before : b < channels → big (part (frame_row channels words commands) (40 * b) 40) ≡ pick (ltb b channels) (big (channel_row (sent_word words b))) (commands_number commands (4 * (b - channels)) 4)
       before h =
-          ap big (frame-channel b h) ∙ ap (λ (w : ℕ). big (channelRow w)) (word_at channels words b h) ∙ rw (lt-ltb b channels h)
+          ap big (frame-channel b h) ∙ ap (λ (w : ℕ). big (channel_row w)) (word_at channels words b h) ∙ rw (lt-ltb b channels h)
 
-      after : channels ≤ b → big (part (frameRow channels words commands) (40 * b) 40) ≡ pick (ltb b channels) (big (channelRow (sentWord words b))) (commandsNumber commands (4 * (b - channels)) 4)
+      after : channels ≤ b → big (part (frame_row channels words commands) (40 * b) 40) ≡ pick (ltb b channels) (big (channel_row (sent_word words b))) (commands_number commands (4 * (b - channels)) 4)
       after h =
           let p : 40 * b ≡ 40 * channels + 10 * (4 * (b - channels)) = omega arith in
-          ap (λ (q : ℕ). big (part (frameRow channels words commands) q 40)) p ∙ frame-commands (4 * (b - channels)) 4 (omega arith)
+          ap (λ (q : ℕ). big (part (frame_row channels words commands) q 40)) p ∙ frame-commands (4 * (b - channels)) 4 (omega arith)
           ∙ rw (le-ltb b channels h)

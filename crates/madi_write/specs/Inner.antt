@@ -4,25 +4,25 @@ use Rattle.std.specs.Int.Bits.{bit_xor}
 use Rattle.bits.specs.Pick.{pick}
 use Rattle.bits.specs.Row.{Row, odd, big}
 use Rattle.bits.specs.Window.{window}
-use Rattle.subframe.specs.Body.{evenBody}
+use Rattle.subframe.specs.Body.{even_body}
 use Rattle.line.specs.Nrzi.{levels}
-use Rattle.madi_code.specs.Groups.{commandCode}
-use Rattle.madi_code.specs.Channels.{channelRow}
-use Rattle.madi_write.specs.Writer.{frameRow, needed, frameOctets}
+use Rattle.madi_code.specs.Groups.{command_code}
+use Rattle.madi_code.specs.Channels.{channel_row}
+use Rattle.madi_write.specs.Writer.{frame_row, needed, frame_octets}
 
 -- the word of channel b as it is sent
-unfoldable pub sentWord : List ℕ → ℕ → ℕ
-sentWord words b = pick (ltb b (length words)) (get_or words b 0 + pick (eqb b 0) 3 2) 0
+unfoldable pub sent_word : List ℕ → ℕ → ℕ
+sent_word words b = pick (ltb b (length words)) (get_or words b 0 + pick (eqb b 0) 3 2) 0
 
 -- k commands of a list from the i-th on as a number
-unfoldable pub commandsNumber : List ℕ → ℕ → ℕ → ℕ
-commandsNumber commands i zero = 0
-commandsNumber commands i (suc k) = commandsNumber commands i k * 2 ^ 10 + commandCode (get_or commands (i + k) 0)
+unfoldable pub commands_number : List ℕ → ℕ → ℕ → ℕ
+commands_number commands i zero = 0
+commands_number commands i (suc k) = commands_number commands i k * 2 ^ 10 + command_code (get_or commands (i + k) 0)
 
 -- the 40 bits of a frame from bit 40 b on as a number: a channel, or four commands
 unfoldable pub block_of : ℕ → List ℕ → List ℕ → ℕ → ℕ
 block_of channels words commands b =
-    pick (ltb b channels) (big (channelRow (sentWord words b))) (commandsNumber commands (4 * (b - channels)) 4)
+    pick (ltb b channels) (big (channel_row (sent_word words b))) (commands_number commands (4 * (b - channels)) 4)
 
 -- y is the number whose digits, each against the one before, are those of x
 abbrev pub Levels : ℕ → ℕ → Type 0
@@ -39,28 +39,28 @@ abbrev pub Laid : ℕ → ℕ → ℕ → ℕ → List ℕ → List ℕ → Type
 Laid b last x r at_entry_lem at_exit = (y : ℕ) × Levels (last * 2 ^ 40 + x) y × (r ≡ y % 2) × Stored (5 * b) y 5 at_entry_lem at_exit
 
 -- the level before each bit of the frame, from the first on
-abbrev pub sentLevels : ℕ → List ℕ → List ℕ → ℕ → Row
-sentLevels channels words commands level = odd level ∷ levels (odd level) (frameRow channels words commands)
+abbrev pub sent_levels : ℕ → List ℕ → List ℕ → ℕ → Row
+sent_levels channels words commands level = odd level ∷ levels (odd level) (frame_row channels words commands)
 
 -- this is the level before block b
 abbrev pub LevelAt : ℕ → List ℕ → List ℕ → ℕ → ℕ → ℕ → Type 0
-LevelAt channels words commands level last b = last ≡ window (sentLevels channels words commands level) (40 * b) 1
+LevelAt channels words commands level last b = last ≡ window (sent_levels channels words commands level) (40 * b) 1
 
 -- a line that was the frame's up to block b₀, wherever it is from, is so up to block b, and `last` is the level there
 abbrev pub Passed : ℕ → List ℕ → List ℕ → ℕ → List ℕ → ℕ → List ℕ → ℕ → ℕ → Type 0
 Passed channels words commands level line₀ b₀ line last b =
     (length line ≡ length line₀) × LevelAt channels words commands level last b
     × ((old : List ℕ) → needed channels (length commands) ≤ length old
-    → line₀ ≡ take (5 * b₀) (frameOctets channels words commands level) ++ drop (5 * b₀) old
-    → line ≡ take (5 * b) (frameOctets channels words commands level) ++ drop (5 * b) old)
+    → line₀ ≡ take (5 * b₀) (frame_octets channels words commands level) ++ drop (5 * b₀) old
+    → line ≡ take (5 * b) (frame_octets channels words commands level) ++ drop (5 * b) old)
 
 -- a line that was the frame's up to its last whole block is all of the frame
 abbrev pub Ended : ℕ → List ℕ → List ℕ → ℕ → List ℕ → List ℕ → Type 0
 Ended channels words commands level line₀ line =
     (old : List ℕ) → needed channels (length commands) ≤ length old
-    → line₀ ≡ take (5 * (channels + length commands / 4)) (frameOctets channels words commands level) ++ drop (5 * (channels + length commands / 4)) old
-    → line ≡ frameOctets channels words commands level ++ drop (needed channels (length commands)) old
+    → line₀ ≡ take (5 * (channels + length commands / 4)) (frame_octets channels words commands level) ++ drop (5 * (channels + length commands / 4)) old
+    → line ≡ frame_octets channels words commands level ++ drop (needed channels (length commands)) old
 
 -- no word breaks a rule
 abbrev pub Sound : List ℕ → Type 0
-Sound words = (i : ℕ) → i < length words → (evenBody (get_or words i 0) ≡ true) × (get_or words i 0 % 4 ≡ 0)
+Sound words = (i : ℕ) → i < length words → (even_body (get_or words i 0) ≡ true) × (get_or words i 0 % 4 ≡ 0)

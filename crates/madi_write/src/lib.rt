@@ -2,12 +2,12 @@
 ghost use Rattle.std.specs.Prelude.{◌≡◌, true, ◌&&◌, List, ◌++◌, ℕ, ◌+◌, ◌*◌, ◌/◌, ◌%◌, ◌^◌, ◌<◌, ◌≤◌, leb, length, get_or, drop};
 ghost use Rattle.answer.specs.Answer.{accepted, verdict, rewritten};
 ghost use Rattle.answer.specs.Demand.{provided};
-ghost use Rattle.answer.specs.Said.{verdictSaid};
+ghost use Rattle.answer.specs.Said.{verdict_said};
 ghost use Rattle.madi_code.specs.Frame.{numbered};
-ghost use Rattle.madi_code.specs.Groups.{commandCodes};
-ghost use Rattle.madi_code.specs.Inner.{groupTable};
-ghost use Rattle.madi_write.specs.Writer.{needed, frameOctets, isList, channelWordDemands, writeDemands, frameWritten};
-ghost use Rattle.madi_write.specs.Inner.{sentWord, commandsNumber, Levels, Stored, Laid, LevelAt, Passed, Ended, Sound};
+ghost use Rattle.madi_code.specs.Groups.{command_codes};
+ghost use Rattle.madi_code.specs.Inner.{group_table};
+ghost use Rattle.madi_write.specs.Writer.{needed, frame_octets, is_list, channel_word_demands, write_demands, frame_written};
+ghost use Rattle.madi_write.specs.Inner.{sent_word, commands_number, Levels, Stored, Laid, LevelAt, Passed, Ended, Sound};
 
 use answer::Verdict;
 
@@ -15,7 +15,7 @@ use answer::Verdict;
 // zero.
 fn sent_word(words: &[u32], b: usize) -> u32
     requires { (k : ℕ) → get_or words.now k 0 % 4 ≡ 0 }
-    ensures { result ≡ sentWord words.now b }
+    ensures { result ≡ sent_word words.now b }
 {
     if b < words.len() {
         if b == 0 {
@@ -28,8 +28,8 @@ fn sent_word(words: &[u32], b: usize) -> u32
 
 // The k commands of a list from the i-th on, at most four, the earliest highest. The table is that of commands.
 fn commands_from(codes: &[u16; 16], commands: &[u8], i: usize, k: usize) -> u64
-    requires { (codes.now ≡ commandCodes) × (k ≤ 4) × (i + k ≤ length commands.now) × (numbered commands.now ≡ true) }
-    ensures { result ≡ commandsNumber commands.now i k }
+    requires { (codes.now ≡ command_codes) × (k ≤ 4) × (i + k ≤ length commands.now) × (numbered commands.now ≡ true) }
+    ensures { result ≡ commands_number commands.now i k }
 {
     let mut x: u64 = 0;
     let mut j: usize = 0;
@@ -90,7 +90,7 @@ fn lay(line: &mut [u8], b: usize, last: u64, x: u64) -> u64
 
 // The active channels, into the front of line after a level; gives the level that they leave.
 fn lay_active(table: &[u8; 16], words: &[u32], level: u64, line: &mut [u8]) -> u64
-    requires { (table.now ≡ groupTable) × (level ≤ 1) × (length words.now ≤ 64) × ((k : ℕ) → get_or words.now k 0 % 4 ≡ 0) × (5 * length words.now ≤ length line.old) }
+    requires { (table.now ≡ group_table) × (level ≤ 1) × (length words.now ≤ 64) × ((k : ℕ) → get_or words.now k 0 % 4 ≡ 0) × (5 * length words.now ≤ length line.old) }
     ensures { (channels : ℕ) (commands : List ℕ) → length words.now ≤ channels → Passed channels words.now commands level line.old 0 line.new result (length words.now) }
 {
     let mut last = level;
@@ -105,7 +105,7 @@ fn lay_active(table: &[u8; 16], words: &[u32], level: u64, line: &mut [u8]) -> u
 
 // The inactive channels, behind the active ones. Each leaves the level as it was, so all of them are the same five octets.
 fn lay_inactive(table: &[u8; 16], words: &[u32], channels: usize, last: u64, line: &mut [u8])
-    requires { (table.now ≡ groupTable) × (last < 2) × (length words.now ≤ channels) × (channels ≤ 64) × (5 * channels ≤ length line.old) }
+    requires { (table.now ≡ group_table) × (last < 2) × (length words.now ≤ channels) × (channels ≤ 64) × (5 * channels ≤ length line.old) }
     ensures { (commands : List ℕ) (level : ℕ) → LevelAt channels words.now commands level last (length words.now) → Passed channels words.now commands level line.old (length words.now) line.new last channels }
 {
     let idle = madi_code::bits_by(table, 0);
@@ -119,7 +119,7 @@ fn lay_inactive(table: &[u8; 16], words: &[u32], channels: usize, last: u64, lin
 
 // The commands by fours, behind the channels; gives the level that they leave. The table is that of commands.
 fn lay_fours(codes: &[u16; 16], commands: &[u8], channels: usize, last: u64, line: &mut [u8]) -> u64
-    requires { (codes.now ≡ commandCodes) × (last < 2) × (channels ≤ 64) × (length commands.now ≤ 255) × (numbered commands.now ≡ true) × (5 * (channels + length commands.now / 4) ≤ length line.old) }
+    requires { (codes.now ≡ command_codes) × (last < 2) × (channels ≤ 64) × (length commands.now ≤ 255) × (numbered commands.now ≡ true) × (5 * (channels + length commands.now / 4) ≤ length line.old) }
     ensures { (words : List ℕ) (level : ℕ) → length words ≤ channels → LevelAt channels words commands.now level last channels → Passed channels words commands.now level line.old channels line.new result (channels + length commands.now / 4) }
 {
     let whole = channels + commands.len() / 4;
@@ -135,7 +135,7 @@ fn lay_fours(codes: &[u16; 16], commands: &[u8], channels: usize, last: u64, lin
 
 // The commands that are left, behind the fours, with zeros behind them up to an octet's end.
 fn lay_left(codes: &[u16; 16], commands: &[u8], channels: usize, last: u64, line: &mut [u8])
-    requires { (codes.now ≡ commandCodes) × (last < 2) × (channels ≤ 64) × (length commands.now ≤ 255) × (numbered commands.now ≡ true) × (needed channels (length commands.now) ≤ length line.old) }
+    requires { (codes.now ≡ command_codes) × (last < 2) × (channels ≤ 64) × (length commands.now ≤ 255) × (numbered commands.now ≡ true) × (needed channels (length commands.now) ≤ length line.old) }
     ensures { (words : List ℕ) (level : ℕ) → length words ≤ channels → LevelAt channels words commands.now level last (channels + length commands.now / 4) → Ended channels words commands.now level line.old line.new }
 {
     let fours = commands.len() / 4;
@@ -150,7 +150,7 @@ fn lay_left(codes: &[u16; 16], commands: &[u8], channels: usize, last: u64, line
 // commands by fours; then the commands that are left.
 fn fill(channels: usize, words: &[u32], commands: &[u8], level: u32, line: &mut [u8])
     requires { (level ≤ 1) × (channels ≤ 64) × (length words.now ≤ channels) × (length commands.now ≤ 255) × (numbered commands.now ≡ true) × ((k : ℕ) → get_or words.now k 0 % 4 ≡ 0) × (needed channels (length commands.now) ≤ length line.old) }
-    ensures { line.new ≡ frameOctets channels words.now commands.now level ++ drop (needed channels (length commands.now)) line.old }
+    ensures { line.new ≡ frame_octets channels words.now commands.now level ++ drop (needed channels (length commands.now)) line.old }
 {
     let table = madi_code::groups();
     let codes = madi_code::command_codes();
@@ -179,7 +179,7 @@ fn are_sound(words: &[u32]) -> bool
 // The first word of odd parity, then the first with bit 0 or 1 set.
 fn find_fault(words: &[u32]) -> Verdict
     requires { length words.now ≤ 64 }
-    ensures { verdictSaid result ≡ provided (channelWordDemands words.now) (accepted tt) }
+    ensures { verdict_said result ≡ provided (channel_word_demands words.now) (accepted tt) }
 {
     let mut i = 0;
     while i < words.len() {
@@ -209,7 +209,7 @@ fn find_fault(words: &[u32]) -> Verdict
 // The same, at one stride where there is none.
 fn check_words(words: &[u32]) -> Verdict
     requires { length words.now ≤ 64 }
-    ensures { verdictSaid result ≡ provided (channelWordDemands words.now) (accepted tt) }
+    ensures { verdict_said result ≡ provided (channel_word_demands words.now) (accepted tt) }
 {
     if are_sound(words) {
         return Verdict::Accepted;
@@ -245,7 +245,7 @@ fn are_numbered(commands: &[u8]) -> bool
 
 // Whether these are 1 to 255 commands, none above 15, and at least one of them 0.
 fn is_list(commands: &[u8]) -> bool
-    ensures { result ≡ isList commands.now }
+    ensures { result ≡ is_list commands.now }
 {
     if count_right(commands.len()) {
         if are_numbered(commands) {
@@ -265,7 +265,7 @@ fn octets_needed(channels: u32, n: usize) -> usize
 
 // Whether all demands are met, before anything is written.
 fn check_frame(channels: u32, words: &[u32], commands: &[u8], level: u32, room: usize) -> Verdict
-    ensures { verdictSaid result ≡ provided (writeDemands channels words.now commands.now level room) (accepted tt) }
+    ensures { verdict_said result ≡ provided (write_demands channels words.now commands.now level room) (accepted tt) }
 {
     if madi_code::is_counted(channels) {
         if 1 <= words.len() {
@@ -299,8 +299,8 @@ pub fn write_frame(
     level: u32,
     line: &mut [u8],
 ) -> Verdict
-    ensures result_value { verdictSaid result ≡ verdict (frameWritten channels words.now commands.now level (length line.old)) }
-    ensures line_after { line.new ≡ rewritten (frameWritten channels words.now commands.now level (length line.old)) line.old }
+    ensures result_value { verdict_said result ≡ verdict (frame_written channels words.now commands.now level (length line.old)) }
+    ensures line_after { line.new ≡ rewritten (frame_written channels words.now commands.now level (length line.old)) line.old }
 {
     let answer = check_frame(channels, words, commands, level, line.len());
     match answer {

@@ -10,27 +10,27 @@ use lib.Seq.{get_or-take}
 use Rattle.bits.proofs.Tests.{pick-cases}
 use Rattle.records.specs.declared.Turn.{Turn}
 use Rattle.records.specs.declared.Turn.TheVariants.{End, Cut, Long, Record}
-use Rattle.records.specs.Head.{size_of, bodySize, turn_of}
+use Rattle.records.specs.Head.{size_of, body_size, turn_of}
 
 -- In each case the length is a number that is equal to the header's.
 
 module _ (head : List ℕ) where
-  pub read-cut : length head < 4 → bodySize head ≡ 0
-  unfolding bodySize
+  pub read-cut : length head < 4 → body_size head ≡ 0
+  unfolding body_size
   read-cut h = simp (lt-ltb (length head) 4 h)
 
   module _ (headed : 4 ≤ length head) {size : ℕ} (e : size ≡ size_of head) where
-    pub read-long : 8192 < size → bodySize head ≡ 0
-    unfolding bodySize
+    pub read-long : 8192 < size → body_size head ≡ 0
+    unfolding body_size
     read-long h = simp (le-ltb (length head) 4 headed, ← e, lt-ltb 8192 size h)
 
-    pub read_all : size ≤ 8192 → bodySize head ≡ size
-    unfolding bodySize
+    pub read_all : size ≤ 8192 → body_size head ≡ size
+    unfolding body_size
     read_all h = simp (le-ltb (length head) 4 headed, ← e, le-ltb 8192 size h)
 
 -- no record is longer than 8,192 octets
-pub read_fits : (head : List ℕ) → bodySize head ≤ 8192
-unfolding bodySize
+pub read_fits : (head : List ℕ) → body_size head ≤ 8192
+unfolding body_size
 read_fits head =
     pick-cases (λ (k : ℕ). k ≤ 8192) (ltb (length head) 4) _ _ (λ t. omega arith)
     (λ f. pick-cases (λ (k : ℕ). k ≤ 8192) (ltb 8192 (size_of head)) _ _ (λ t. omega arith) (λ g. ltb-false 8192 (size_of head) g))

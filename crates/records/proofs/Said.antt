@@ -1,10 +1,10 @@
 -- What a record comes to says an answer in one way only. Assumes nothing.
 use mathlib.Core.Path.{◌≡◌}
-use Rattle.records.specs.Record.{outcomeSaid}
+use Rattle.records.specs.Record.{outcome_said}
 use Rattle.records.specs.declared.Outcome.{Outcome}
 use Rattle.records.specs.declared.Outcome.TheVariants.{Aes3, Hd, Madi, Ctl, Refused}
 
-pub outcome-said-once : (a b : Outcome) → outcomeSaid a ≡ outcomeSaid b → a ≡ b
+pub outcome-said-once : (a b : Outcome) → outcome_said a ≡ outcome_said b → a ≡ b
 outcome-said-once (Aes3 a b) (Aes3 c d) e = cc
 outcome-said-once (Aes3 a b) (Hd c d) e = cc
 outcome-said-once (Aes3 a b) (Madi c d) e = cc

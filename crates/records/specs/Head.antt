@@ -14,8 +14,8 @@ abbrev pub longest : ℕ
 longest = 8192
 
 -- how many octets are to be read after a header: none after one that is cut, or that gives more than that
-unfoldable pub bodySize : List ℕ → ℕ
-bodySize head = pick (ltb (length head) 4) 0 (pick (ltb longest (size_of head)) 0 (size_of head))
+unfoldable pub body_size : List ℕ → ℕ
+body_size head = pick (ltb (length head) 4) 0 (pick (ltb longest (size_of head)) 0 (size_of head))
 
 -- after n records, from the octets that there were of a header, and how many there were of the body after it: the
 -- turn, and how many records are counted then. A count that has no room for another record ends the report.

@@ -2,13 +2,13 @@
 // version and kind; and what the reader of its kind makes of it.
 ghost use Rattle.std.specs.Prelude.{◌≡◌, ◌+◌, ◌*◌, ◌≤◌, ◌<◌, length};
 ghost use Rattle.answer.specs.Answer.{mapped};
-ghost use Rattle.answer.specs.Said.{numberSaid};
-ghost use Rattle.aes3_read.specs.Reader.{blockSaid};
-ghost use Rattle.hd_read.specs.Read.{packetSaid};
-ghost use Rattle.madi_read.specs.Reader.{frameSaid};
-ghost use Rattle.hd_control.specs.Read.{controlSaid};
-ghost use Rattle.records.specs.Head.{size_of, bodySize, turn_of};
-ghost use Rattle.records.specs.Record.{outcomeSaid, blockContent, blockRecord, packetContent, packetRecord, wordsFilled, frameContent, frameRecord, controlContent, controlRecord, kind_of, by_kind, recordAnswer};
+ghost use Rattle.answer.specs.Said.{number_said};
+ghost use Rattle.aes3_read.specs.Reader.{block_said};
+ghost use Rattle.hd_read.specs.Read.{packet_said};
+ghost use Rattle.madi_read.specs.Reader.{frame_said};
+ghost use Rattle.hd_control.specs.Read.{control_said};
+ghost use Rattle.records.specs.Head.{size_of, body_size, turn_of};
+ghost use Rattle.records.specs.Record.{outcome_said, block_content, block_record, packet_content, packet_record, words_filled, frame_content, frame_record, control_content, control_record, kind_of, by_kind, record_answer};
 
 use answer::NumberAnswer;
 
@@ -51,7 +51,7 @@ fn size_of(head: &[u8]) -> usize
 
 // How many octets are to be read after a header of four octets, or of as many as were left.
 pub fn body_size(head: &[u8]) -> usize
-    ensures { result ≡ bodySize head.now }
+    ensures { result ≡ body_size head.now }
 {
     if head.len() < 4 {
         return 0;
@@ -102,7 +102,7 @@ fn no_side() -> [u8; 192]
 }
 
 fn of_block(answer: aes3_read::ReadAnswer) -> Outcome
-    ensures { outcomeSaid result ≡ mapped blockContent (blockSaid answer) }
+    ensures { outcome_said result ≡ mapped block_content (block_said answer) }
 {
     match answer {
         aes3_read::ReadAnswer::Read { crcc_a, crcc_b } => Outcome::Aes3 {
@@ -114,7 +114,7 @@ fn of_block(answer: aes3_read::ReadAnswer) -> Outcome
 }
 
 fn block(line: &[u8]) -> Outcome
-    ensures { outcomeSaid result ≡ blockRecord line.now }
+    ensures { outcome_said result ≡ block_record line.now }
 {
     let mut samples = no_samples();
     let mut side = no_side();
@@ -137,7 +137,7 @@ fn big_endian(a: u8, b: u8) -> u16
 
 // The words of twice as many octets. Where there are not just so many, the words stay.
 pub fn fill_words(octets: &[u8], words: &mut [u16])
-    ensures { words.new ≡ wordsFilled octets.now words.old }
+    ensures { words.new ≡ words_filled octets.now words.old }
 {
     if octets.len() % 2 != 0 {
         return;
@@ -153,7 +153,7 @@ pub fn fill_words(octets: &[u8], words: &mut [u16])
 }
 
 fn of_packet(answer: hd_read::ReadAnswer) -> Outcome
-    ensures { outcomeSaid result ≡ mapped packetContent (packetSaid answer) }
+    ensures { outcome_said result ≡ mapped packet_content (packet_said answer) }
 {
     match answer {
         hd_read::ReadAnswer::Read(f) => Outcome::Hd {
@@ -165,7 +165,7 @@ fn of_packet(answer: hd_read::ReadAnswer) -> Outcome
 }
 
 fn packet(octets: &[u8]) -> Outcome
-    ensures { outcomeSaid result ≡ packetRecord octets.now }
+    ensures { outcome_said result ≡ packet_record octets.now }
 {
     if octets.len() != 62 {
         return Outcome::Refused {
@@ -194,7 +194,7 @@ fn no_commands() -> [u8; 255]
 }
 
 fn of_frame(answer: madi_read::ReadAnswer) -> Outcome
-    ensures { outcomeSaid result ≡ mapped frameContent (frameSaid answer) }
+    ensures { outcome_said result ≡ mapped frame_content (frame_said answer) }
 {
     match answer {
         madi_read::ReadAnswer::Read { active, commands } => Outcome::Madi { active, commands },
@@ -203,7 +203,7 @@ fn of_frame(answer: madi_read::ReadAnswer) -> Outcome
 }
 
 fn frame(octets: &[u8]) -> Outcome
-    ensures { outcomeSaid result ≡ frameRecord octets.now }
+    ensures { outcome_said result ≡ frame_record octets.now }
 {
     if octets.len() < 4 {
         return Outcome::Refused {
@@ -235,7 +235,7 @@ fn no_control() -> [u16; 18]
 }
 
 fn of_control(answer: hd_control::ControlAnswer) -> Outcome
-    ensures { outcomeSaid result ≡ mapped controlContent (controlSaid answer) }
+    ensures { outcome_said result ≡ mapped control_content (control_said answer) }
 {
     match answer {
         hd_control::ControlAnswer::Read(c) => Outcome::Ctl { group: c.group },
@@ -244,7 +244,7 @@ fn of_control(answer: hd_control::ControlAnswer) -> Outcome
 }
 
 fn control(octets: &[u8]) -> Outcome
-    ensures { outcomeSaid result ≡ controlRecord octets.now }
+    ensures { outcome_said result ≡ control_record octets.now }
 {
     if octets.len() != 36 {
         return Outcome::Refused {
@@ -261,7 +261,7 @@ fn control(octets: &[u8]) -> Outcome
 
 // The octet that gives the kind; refusal 2 for fewer than two octets or an unknown version.
 pub fn kind_of(body: &[u8]) -> NumberAnswer
-    ensures { numberSaid result ≡ kind_of body.now }
+    ensures { number_said result ≡ kind_of body.now }
 {
     if body.len() < 2 {
         return NumberAnswer::Refused {
@@ -279,7 +279,7 @@ pub fn kind_of(body: &[u8]) -> NumberAnswer
 }
 
 fn by_kind(kind: u32, payload: &[u8]) -> Outcome
-    ensures { outcomeSaid result ≡ by_kind kind payload.now }
+    ensures { outcome_said result ≡ by_kind kind payload.now }
 {
     match kind {
         1 => block(payload),
@@ -295,7 +295,7 @@ fn by_kind(kind: u32, payload: &[u8]) -> Outcome
 
 // What is answered of a record, from the octets after its length.
 pub fn judge(body: &[u8]) -> Outcome
-    ensures { outcomeSaid result ≡ recordAnswer body.now }
+    ensures { outcome_said result ≡ record_answer body.now }
 {
     match kind_of(body) {
         NumberAnswer::Number(kind) => by_kind(kind, &body[2..]),

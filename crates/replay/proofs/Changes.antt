@@ -5,8 +5,8 @@ use mathlib.Core.List.{List, [], ◌∷◌}
 use Prim.Native.Nat.{ℕ, ◌+◌, ◌-◌, ◌^◌, ◌≤◌, ◌<◌}
 use borrow.Author.Tests.{ne_eqb, lt-leb, le-leb}
 use lib.ListN.{set}
-use Rattle.replay.specs.Sheet.{lineStart, more, entryChanges, all_fit, written}
-use Rattle.replay.specs.Inner.{ProperEntry, changed, refusedChanges, dataPlaces, dataChanges}
+use Rattle.replay.specs.Sheet.{line_start, more, entry_changes, all_fit, written}
+use Rattle.replay.specs.Inner.{ProperEntry, changed, refused_changes, data_places, data_changes}
 use Rattle.replay.specs.declared.Entry.{Entry}
 use Rattle.replay.specs.declared.Entry.TheVariants.{Passed, Data, Control, Refused}
 
@@ -36,7 +36,7 @@ wrote_none sheet = refl
 
 -- those of a data packet, with the figures in another form
 pub wrote_as : (start dbn : ℕ) (sheet : List ℕ) {x y z a b c : ℕ} {new : List ℕ} → x ≡ a → y ≡ b → z ≡ c
-    → new ≡ written (dataPlaces start x y z dbn) sheet → new ≡ written (dataPlaces start a b c dbn) sheet
+    → new ≡ written (data_places start x y z dbn) sheet → new ≡ written (data_places start a b c dbn) sheet
 wrote_as start dbn sheet p q r e = rw (p, q, r) at e
 
 -- ---- the changes of an entry, by what it is
@@ -45,24 +45,24 @@ pub proper-as : {e f : Entry} → e ≡ f → ProperEntry e → ProperEntry f
 proper-as e p = subst ProperEntry e p
 
 module _ {e : Entry} (sheet : List ℕ) where
-  pub changes-none : e ≡ Passed → [] ≡ entryChanges e sheet
-  unfolding entryChanges
+  pub changes-none : e ≡ Passed → [] ≡ entry_changes e sheet
+  unfolding entry_changes
   changes-none k = rw k
 
-  pub changes-data : {g l d : ℕ} → e ≡ Data g l d → dataChanges sheet (lineStart g) l d ≡ entryChanges e sheet
-  unfolding entryChanges
+  pub changes-data : {g l d : ℕ} → e ≡ Data g l d → data_changes sheet (line_start g) l d ≡ entry_changes e sheet
+  unfolding entry_changes
   changes-data k = rw k
 
-  pub changes-control : {g : ℕ} → e ≡ Control g → more sheet (lineStart g) 1 ∷ [] ≡ entryChanges e sheet
-  unfolding entryChanges
+  pub changes-control : {g : ℕ} → e ≡ Control g → more sheet (line_start g) 1 ∷ [] ≡ entry_changes e sheet
+  unfolding entry_changes
   changes-control k = rw k
 
-  pub changes-unlisted : {g l n : ℕ} → e ≡ Refused g l n → g ≡ 0 → more sheet (92 + n) 1 ∷ [] ≡ entryChanges e sheet
-  unfolding entryChanges
+  pub changes-unlisted : {g l n : ℕ} → e ≡ Refused g l n → g ≡ 0 → more sheet (92 + n) 1 ∷ [] ≡ entry_changes e sheet
+  unfolding entry_changes
   changes-unlisted k z = rw (k, z)
 
-  pub changes-refused : {g l n : ℕ} → e ≡ Refused g l n → (g ≡ 0 → ⊥) → refusedChanges sheet (lineStart g + 1) l (lineStart g + 2 + n) ≡ entryChanges e sheet
-  unfolding entryChanges
+  pub changes-refused : {g l n : ℕ} → e ≡ Refused g l n → (g ≡ 0 → ⊥) → refused_changes sheet (line_start g + 1) l (line_start g + 2 + n) ≡ entry_changes e sheet
+  unfolding entry_changes
   changes-refused {g} k z = rw (k, ne_eqb g 0 z)
 
 -- what was shown of some changes is shown of the same by another name

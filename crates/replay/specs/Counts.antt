@@ -8,16 +8,16 @@ use Rattle.replay.specs.declared.Entry.{Entry}
 use Rattle.replay.specs.declared.Entry.TheVariants.{Passed, Data, Control, Refused}
 
 -- how many of some records enter what has a property
-unfoldable pub countIn : (Entry → Bool) → List (List ℕ) → ℕ
-countIn p [] = 0
-countIn p (r ∷ rs) = digit (p (entry_of r)) + countIn p rs
+unfoldable pub count_in : (Entry → Bool) → List (List ℕ) → ℕ
+count_in p [] = 0
+count_in p (r ∷ rs) = digit (p (entry_of r)) + count_in p rs
 
 -- a packet of this group
-abbrev pub offeredTo : ℕ → Entry → Bool
-offeredTo group Passed = false
-offeredTo group (Data g lanes dbn) = eqb g group
-offeredTo group (Control g) = eqb g group
-offeredTo group (Refused g lanes n) = eqb g group
+abbrev pub offered_to : ℕ → Entry → Bool
+offered_to group Passed = false
+offered_to group (Data g lanes dbn) = eqb g group
+offered_to group (Control g) = eqb g group
+offered_to group (Refused g lanes n) = eqb g group
 
 abbrev pub read_of : ℕ → Entry → Bool
 read_of group Passed = false
@@ -25,24 +25,24 @@ read_of group (Data g lanes dbn) = eqb g group
 read_of group (Control g) = eqb g group
 read_of group (Refused g lanes n) = false
 
-abbrev pub refusedOf : ℕ → ℕ → Entry → Bool
-refusedOf group number Passed = false
-refusedOf group number (Data g lanes dbn) = false
-refusedOf group number (Control g) = false
-refusedOf group number (Refused g lanes n) = eqb g group && eqb n number
+abbrev pub refused_of : ℕ → ℕ → Entry → Bool
+refused_of group number Passed = false
+refused_of group number (Data g lanes dbn) = false
+refused_of group number (Control g) = false
+refused_of group number (Refused g lanes n) = eqb g group && eqb n number
 
-abbrev pub refusedAny : ℕ → Entry → Bool
-refusedAny group Passed = false
-refusedAny group (Data g lanes dbn) = false
-refusedAny group (Control g) = false
-refusedAny group (Refused g lanes n) = eqb g group
+abbrev pub refused_any : ℕ → Entry → Bool
+refused_any group Passed = false
+refused_any group (Data g lanes dbn) = false
+refused_any group (Control g) = false
+refused_any group (Refused g lanes n) = eqb g group
 
 -- the records that are packets of this group, in their order
-unfoldable pub packetsOf : ℕ → List (List ℕ) → List (List ℕ)
-packetsOf group [] = []
-packetsOf group (r ∷ rs) = pick (offeredTo group (entry_of r)) (r ∷ packetsOf group rs) (packetsOf group rs)
+unfoldable pub packets_of : ℕ → List (List ℕ) → List (List ℕ)
+packets_of group [] = []
+packets_of group (r ∷ rs) = pick (offered_to group (entry_of r)) (r ∷ packets_of group rs) (packets_of group rs)
 
 -- the sum of the n figures of a sheet from place k on
-unfoldable pub figuresSum : List ℕ → ℕ → ℕ → ℕ
-figuresSum sheet k zero = 0
-figuresSum sheet k (suc n) = get_or sheet k 0 + figuresSum sheet (suc k) n
+unfoldable pub figures_sum : List ℕ → ℕ → ℕ → ℕ
+figures_sum sheet k zero = 0
+figures_sum sheet k (suc n) = get_or sheet k 0 + figures_sum sheet (suc k) n

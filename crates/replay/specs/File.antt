@@ -11,30 +11,30 @@ unfoldable pub whole : List ℕ → Bool
 whole input = leb 4 (length input) && leb (size_of input) longest && leb (4 + size_of input) (length input)
 
 -- its octets after the length, and what comes after it
-abbrev pub recordFirst : List ℕ → List ℕ
-recordFirst input = take (size_of input) (drop 4 input)
+abbrev pub record_first : List ℕ → List ℕ
+record_first input = take (size_of input) (drop 4 input)
 
 abbrev pub rest_of : List ℕ → List ℕ
 rest_of input = drop (4 + size_of input) input
 
 -- the records before the stop, each without its length; at most so many
-unfoldable pub recordsOn : ℕ → List ℕ → List (List ℕ)
-recordsOn zero input = []
-recordsOn (suc most) input = pick (whole input) (recordFirst input ∷ recordsOn most (rest_of input)) []
+unfoldable pub records_on : ℕ → List ℕ → List (List ℕ)
+records_on zero input = []
+records_on (suc most) input = pick (whole input) (record_first input ∷ records_on most (rest_of input)) []
 
 -- each takes four octets at least, so that there are no more of them than octets
-unfoldable pub recordsOf : List ℕ → List (List ℕ)
-recordsOf input = recordsOn (length input) input
+unfoldable pub records_of : List ℕ → List (List ℕ)
+records_of input = records_on (length input) input
 
 -- how many octets of a file records take
-unfoldable pub octetsIn : List (List ℕ) → ℕ
-octetsIn [] = 0
-octetsIn (r ∷ rs) = 4 + length r + octetsIn rs
+unfoldable pub octets_in : List (List ℕ) → ℕ
+octets_in [] = 0
+octets_in (r ∷ rs) = 4 + length r + octets_in rs
 
 -- why no whole record stands first: the input ends; a length above 8,192; a record that is cut
 unfoldable pub stop_at : List ℕ → Next
 stop_at left = pick (eqb (length left) 0) End (pick (ltb (length left) 4) Cut (pick (ltb longest (size_of left)) Long Cut))
 
 -- the stop of a file: of what is left after its whole records
-unfoldable pub fileStop : List ℕ → Next
-fileStop input = stop_at (drop (octetsIn (recordsOf input)) input)
+unfoldable pub file_stop : List ℕ → Next
+file_stop input = stop_at (drop (octets_in (records_of input)) input)

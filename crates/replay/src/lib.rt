@@ -1,7 +1,7 @@
 // The replay of a night's packets: figures by group over a file of records, one record at a time, so that a file and a
 // stream go by the same step.
 ghost use Rattle.std.specs.Prelude.{◌≡◌, min, length, replicate};
-ghost use Rattle.replay.specs.Replay.{taken_of, replayFigures, replayEnd, stopNumber, replayTold, sheetAfter, next_of, sheetStepped};
+ghost use Rattle.replay.specs.Replay.{taken_of, replay_figures, replay_end, stop_number, replay_told, sheet_after, next_of, sheet_stepped};
 ghost use Rattle.replay.specs.Inner.{goes, full};
 
 mod packet;
@@ -38,7 +38,7 @@ pub enum Next {
 // What a header and the octets read after it come to; a record that is counted changes the sheet.
 pub fn step(sheet: &mut [u32; 110], head: &[u8], body: &[u8]) -> Next
     ensures value { result ≡ next_of sheet.old head.now body.now }
-    ensures sheet_after { sheet.new ≡ sheetStepped sheet.old head.now body.now }
+    ensures sheet_after { sheet.new ≡ sheet_stepped sheet.old head.now body.now }
 {
     match records::turn_after(0, head, body.len()) {
         Turn::End(n) => Next::End,
@@ -92,8 +92,8 @@ fn shorter(a: usize, b: usize) -> usize
 
 // Replays octets into figures.
 fn run(octets: &[u8], figures: &mut [u32; 110]) -> Ran
-    ensures taken_value { (result.taken ≡ taken_of octets.now figures.old) × (result.next ≡ replayEnd octets.now figures.old) }
-    ensures figures_after { figures.new ≡ replayFigures octets.now figures.old }
+    ensures taken_value { (result.taken ≡ taken_of octets.now figures.old) × (result.next ≡ replay_end octets.now figures.old) }
+    ensures figures_after { figures.new ≡ replay_figures octets.now figures.old }
 {
     let mut at: usize = 0;
     loop {
@@ -141,7 +141,7 @@ fn copy(from: &[u32], to: &mut [u32])
 }
 
 fn stop_number(next: Next) -> u32
-    ensures { result ≡ stopNumber next }
+    ensures { result ≡ stop_number next }
 {
     match next {
         Next::Going => 0,
@@ -154,8 +154,8 @@ fn stop_number(next: Next) -> u32
 
 // Replays a file from a sheet into it: refusals 1, 2, 23.
 pub fn replay(octets: &[u8], sheet: &mut [u32]) -> Replayed
-    ensures value { result ≡ replayTold octets.now sheet.old }
-    ensures sheet_after { sheet.new ≡ sheetAfter octets.now sheet.old }
+    ensures value { result ≡ replay_told octets.now sheet.old }
+    ensures sheet_after { sheet.new ≡ sheet_after octets.now sheet.old }
 {
     let mut figures = no_figures();
     if sheet.len() != FIGURES {

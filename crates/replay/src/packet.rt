@@ -2,10 +2,10 @@
 // passed over.
 ghost use Rattle.std.specs.Prelude.{◌≡◌, length};
 ghost use Rattle.answer.specs.Answer.{Answer.accepted, mapped};
-ghost use Rattle.answer.specs.Said.{numberSaid};
-ghost use Rattle.hd_read.specs.Read.{readAnswer, fieldsRead, packetSaid};
-ghost use Rattle.hd_control.specs.Read.{controlSaid};
-ghost use Rattle.replay.specs.Packet.{dataHeard, dataEntry, controlHeard, controlEntry, entry_of};
+ghost use Rattle.answer.specs.Said.{number_said};
+ghost use Rattle.hd_read.specs.Read.{read_answer, fields_read, packet_said};
+ghost use Rattle.hd_control.specs.Read.{control_said};
+ghost use Rattle.replay.specs.Packet.{data_heard, data_entry, control_heard, control_entry, entry_of};
 
 use crate::Entry;
 use answer::NumberAnswer;
@@ -26,7 +26,7 @@ fn no_control() -> [u16; 18]
 }
 
 fn of_read(group: u32, lanes: u32, read: hd_read::ReadAnswer) -> Entry
-    ensures { result ≡ dataHeard group (accepted lanes) (packetSaid read) }
+    ensures { result ≡ data_heard group (accepted lanes) (packet_said read) }
 {
     match read {
         hd_read::ReadAnswer::Read(f) => Entry::Data {
@@ -45,7 +45,7 @@ fn of_read(group: u32, lanes: u32, read: hd_read::ReadAnswer) -> Entry
 // Repaired, and then read; the words that repair refuses stay as received.
 // What comes of a packet from its group, the answer of its repair and the words after it.
 fn heard(group: u32, lanes: NumberAnswer, words: &[u16]) -> Entry
-    ensures { result ≡ dataHeard group (numberSaid lanes) (mapped fieldsRead (readAnswer words.now 4)) }
+    ensures { result ≡ data_heard group (number_said lanes) (mapped fields_read (read_answer words.now 4)) }
 {
     match lanes {
         NumberAnswer::Refused { number, place } => Entry::Refused {
@@ -61,7 +61,7 @@ fn heard(group: u32, lanes: NumberAnswer, words: &[u16]) -> Entry
 }
 
 fn data(octets: &[u8]) -> Entry
-    ensures { result ≡ dataEntry octets.now }
+    ensures { result ≡ data_entry octets.now }
 {
     if octets.len() != 62 {
         return Entry::Refused {
@@ -82,7 +82,7 @@ fn data(octets: &[u8]) -> Entry
 // ---- a control packet
 
 fn of_control(group: u32, answer: hd_control::ControlAnswer) -> Entry
-    ensures { result ≡ controlHeard group (controlSaid answer) }
+    ensures { result ≡ control_heard group (control_said answer) }
 {
     match answer {
         hd_control::ControlAnswer::Read(c) => Entry::Control { group },
@@ -95,7 +95,7 @@ fn of_control(group: u32, answer: hd_control::ControlAnswer) -> Entry
 }
 
 fn control(octets: &[u8]) -> Entry
-    ensures { result ≡ controlEntry octets.now }
+    ensures { result ≡ control_entry octets.now }
 {
     if octets.len() != 36 {
         return Entry::Refused {

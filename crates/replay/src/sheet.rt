@@ -1,9 +1,9 @@
 // The sheet: what an entry changes in it, whether that has room, and whether a sheet can be gone on from.
 ghost use Rattle.std.specs.Prelude.{◌≡◌, ◌∷◌, [], ◌+◌, ◌≤◌, ◌<◌, length, get_or, set};
-ghost use Rattle.anc.specs.Dbn.{nextDbn};
-ghost use Rattle.replay.specs.Sheet.{follows, breakOf, more, entryChanges, all_fit, written, entryFits, groupSound, marksSound};
+ghost use Rattle.anc.specs.Dbn.{next_dbn};
+ghost use Rattle.replay.specs.Sheet.{follows, break_of, more, entry_changes, all_fit, written, entry_fits, group_sound, marks_sound};
 ghost use Rattle.replay.specs.declared.Entry.TheVariants.{Refused};
-ghost use Rattle.replay.specs.Inner.{ProperEntry, changed, refusedChanges, dataPlaces, dataChanges};
+ghost use Rattle.replay.specs.Inner.{ProperEntry, changed, refused_changes, data_places, data_changes};
 
 use crate::Entry;
 use answer::NumberAnswer;
@@ -16,7 +16,7 @@ const MOST: u64 = 4_294_967_295;
 
 // Whether a block number is the next after another, for a sender that counts.
 fn is_next(last: u32, dbn: u32) -> bool
-    ensures { result ≡ follows (nextDbn last) dbn }
+    ensures { result ≡ follows (next_dbn last) dbn }
 {
     match anc::next_dbn(last) {
         NumberAnswer::Refused { number, place } => false,
@@ -26,7 +26,7 @@ fn is_next(last: u32, dbn: u32) -> bool
 
 // 1 where the block numbers break, else 0.
 fn break_of(seen: u32, last: u32, dbn: u32) -> u32
-    ensures value { result ≡ breakOf seen last dbn }
+    ensures value { result ≡ break_of seen last dbn }
     ensures upper_bound { result ≤ 1 }
 {
     if seen == 0 {
@@ -77,8 +77,8 @@ fn enter_one(sheet: &mut [u32], k: usize) -> bool
 // The lanes of a packet that was refused at one place, and the packet at another.
 fn enter_refused(sheet: &mut [u32], a: usize, lanes: u32, b: usize) -> bool
     requires { (a < length sheet.old) × (b < length sheet.old) }
-    ensures value { result ≡ all_fit (refusedChanges sheet.old a lanes b) }
-    ensures sheet_after { sheet.new ≡ changed (refusedChanges sheet.old a lanes b) sheet.old }
+    ensures value { result ≡ all_fit (refused_changes sheet.old a lanes b) }
+    ensures sheet_after { sheet.new ≡ changed (refused_changes sheet.old a lanes b) sheet.old }
 {
     let x = with_more(sheet, a, lanes);
     let y = with_more(sheet, b, 1);
@@ -96,7 +96,7 @@ fn enter_refused(sheet: &mut [u32], a: usize, lanes: u32, b: usize) -> bool
 // The figures of a data packet that was read, where all of them fit.
 fn put_data(sheet: &mut [u32], start: usize, x: u64, y: u64, z: u64, dbn: u32)
     requires { (start + 22 < length sheet.old) × (x ≤ 4294967295) × (y ≤ 4294967295) × (z ≤ 4294967295) }
-    ensures { sheet.new ≡ written (dataPlaces start x y z dbn) sheet.old }
+    ensures { sheet.new ≡ written (data_places start x y z dbn) sheet.old }
 {
     put(sheet, start, x);
     put(sheet, start + 1, y);
@@ -108,8 +108,8 @@ fn put_data(sheet: &mut [u32], start: usize, x: u64, y: u64, z: u64, dbn: u32)
 // A data packet that was read, in the line that starts at a place.
 fn enter_data(sheet: &mut [u32], start: usize, lanes: u32, dbn: u32) -> bool
     requires { (start + 22 < length sheet.old) × (dbn ≤ 255) }
-    ensures value { result ≡ all_fit (dataChanges sheet.old start lanes dbn) }
-    ensures sheet_after { sheet.new ≡ changed (dataChanges sheet.old start lanes dbn) sheet.old }
+    ensures value { result ≡ all_fit (data_changes sheet.old start lanes dbn) }
+    ensures sheet_after { sheet.new ≡ changed (data_changes sheet.old start lanes dbn) sheet.old }
 {
     let x = with_more(sheet, start, 1);
     let y = with_more(sheet, start + 1, lanes);
@@ -131,8 +131,8 @@ fn enter_data(sheet: &mut [u32], start: usize, lanes: u32, dbn: u32) -> bool
 // A packet that was refused, of a group or, for 0, of none.
 fn enter_unread(sheet: &mut [u32], group: u32, lanes: u32, number: u32) -> bool
     requires { (length sheet.old ≡ 110) × (group ≤ 4) × (number < 18) }
-    ensures value { result ≡ all_fit (entryChanges (Refused group lanes number) sheet.old) }
-    ensures sheet_after { sheet.new ≡ changed (entryChanges (Refused group lanes number) sheet.old) sheet.old }
+    ensures value { result ≡ all_fit (entry_changes (Refused group lanes number) sheet.old) }
+    ensures sheet_after { sheet.new ≡ changed (entry_changes (Refused group lanes number) sheet.old) sheet.old }
 {
     let at = number as usize;
     if group == 0 {
@@ -145,8 +145,8 @@ fn enter_unread(sheet: &mut [u32], group: u32, lanes: u32, number: u32) -> bool
 // Enters what has room, and says whether it has; else the sheet stays.
 pub(crate) fn enter(sheet: &mut [u32], e: Entry) -> bool
     requires { (length sheet.old ≡ 110) × ProperEntry e }
-    ensures value { result ≡ entryFits e sheet.old }
-    ensures sheet_after { sheet.new ≡ changed (entryChanges e sheet.old) sheet.old }
+    ensures value { result ≡ entry_fits e sheet.old }
+    ensures sheet_after { sheet.new ≡ changed (entry_changes e sheet.old) sheet.old }
 {
     match e {
         Entry::Passed => true,
@@ -169,7 +169,7 @@ pub(crate) fn enter(sheet: &mut [u32], e: Entry) -> bool
 
 fn line_sound(sheet: &[u32], group: usize) -> bool
     requires { (length sheet.now ≡ 110) × (1 ≤ group) × (group ≤ 4) }
-    ensures { result ≡ groupSound sheet.now group }
+    ensures { result ≡ group_sound sheet.now group }
 {
     let mark = sheet[LINE * (group - 1) + 20];
     let last = sheet[LINE * (group - 1) + 21];
@@ -184,7 +184,7 @@ fn line_sound(sheet: &[u32], group: usize) -> bool
 
 pub(crate) fn sheet_sound(sheet: &[u32]) -> bool
     requires { length sheet.now ≡ 110 }
-    ensures { result ≡ marksSound sheet.now }
+    ensures { result ≡ marks_sound sheet.now }
 {
     if line_sound(sheet, 1) {
         if line_sound(sheet, 2) {

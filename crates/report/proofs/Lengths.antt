@@ -11,8 +11,8 @@ use Rattle.bits.specs.Pick.{pick}
 use Rattle.bits.proofs.Tests.{pick-cases}
 use Rattle.answer.specs.Answer.{Answer, Answer.accepted, Answer.refused}
 use Rattle.records.specs.Record.{Content, Content.aes3, Content.hd, Content.madi, Content.ctl}
-use Rattle.report.specs.Text.{heading, aes3Ok, hdOk, madiOk, ctlOk, refusedWord, recordsWord, digits, decimal, singleText, pairText, answerText, line_of, countLine}
-use Rattle.report.specs.Placed.{start_in, start_of, withText}
+use Rattle.report.specs.Text.{heading, aes3_ok, hd_ok, madi_ok, ctl_ok, refused_word, records_word, digits, decimal, single_text, pair_text, answer_text, line_of, count_line}
+use Rattle.report.specs.Placed.{start_in, start_of, with_text}
 
 -- ---- lengths
 
@@ -27,29 +27,29 @@ pub decimal-most : (n : ℕ) → length (decimal n) ≤ 20
 unfolding decimal
 decimal-most n = digits-most 20 n
 
-pub single-most : (word : List ℕ) (a : ℕ) → length (singleText word a) ≤ length word + 21
-unfolding singleText
+pub single-most : (word : List ℕ) (a : ℕ) → length (single_text word a) ≤ length word + 21
+unfolding single_text
 single-most word a = simp length-append (omega (arith, decimal-most a))
 
-pub pair-most : (word : List ℕ) (a b : ℕ) → length (pairText word a b) ≤ length word + 42
-unfolding pairText
+pub pair-most : (word : List ℕ) (a b : ℕ) → length (pair_text word a b) ≤ length word + 42
+unfolding pair_text
 pair-most word a b = simp length-append (omega (arith, decimal-most a, decimal-most b))
 
-answer-most : (a : Answer Content) → length (answerText a) ≤ 51
-unfolding answerText
-answer-most (accepted (aes3 a b)) = omega (arith, pair-most aes3Ok a b)
-answer-most (accepted (hd group dbn)) = omega (arith, pair-most hdOk group dbn)
-answer-most (accepted (madi active commands)) = omega (arith, pair-most madiOk active commands)
-answer-most (accepted (ctl group)) = omega (arith, single-most ctlOk group)
-answer-most (refused number place) = omega (arith, pair-most refusedWord number place)
+answer-most : (a : Answer Content) → length (answer_text a) ≤ 51
+unfolding answer_text
+answer-most (accepted (aes3 a b)) = omega (arith, pair-most aes3_ok a b)
+answer-most (accepted (hd group dbn)) = omega (arith, pair-most hd_ok group dbn)
+answer-most (accepted (madi active commands)) = omega (arith, pair-most madi_ok active commands)
+answer-most (accepted (ctl group)) = omega (arith, single-most ctl_ok group)
+answer-most (refused number place) = omega (arith, pair-most refused_word number place)
 
 pub line-most : (n : ℕ) (a : Answer Content) → length (line_of n a) ≤ 71
 unfolding line_of
-line-most n a = omega (arith, length-append (decimal n) (answerText a), decimal-most n, answer-most a)
+line-most n a = omega (arith, length-append (decimal n) (answer_text a), decimal-most n, answer-most a)
 
-pub count_most : (n : ℕ) → length (countLine n) ≤ 29
-unfolding countLine
-count_most n = single-most recordsWord n
+pub count_most : (n : ℕ) → length (count_line n) ≤ 29
+unfolding count_line
+count_most n = single-most records_word n
 
 -- ---- what is written, and the buffer then
 
@@ -67,17 +67,17 @@ module _ (text old : List ℕ) {size : ℕ} (e : length old ≡ size) (h : lengt
   front : length (take (start_in (length old) text) old) ≡ start_in (length old) text
   front = length-take-le (start_in (length old) text) old (starts (length old) text)
 
-  pub with_size : length (withText text old) ≡ size
-  unfolding withText start_in
+  pub with_size : length (with_text text old) ≡ size
+  unfolding with_text start_in
   with_size = simp (length-append, front) (omega arith)
 
-  pub at-end : drop (start_in size text) (withText text old) ≡ text
-  unfolding withText
+  pub at-end : drop (start_in size text) (with_text text old) ≡ text
+  unfolding with_text
   at-end = drop_at (take (start_in (length old) text) old) text (start_in size text) (front ∙ place)
 
 module _ (old : List ℕ) (size : length old ≡ 128) where
-  pub heading-written : drop (start_of heading) (withText heading old) ≡ heading
+  pub heading-written : drop (start_of heading) (with_text heading old) ≡ heading
   heading-written = at-end heading old size (omega arith)
 
-  pub heading-size : {new : List ℕ} → new ≡ withText heading old → length new ≡ 128
+  pub heading-size : {new : List ℕ} → new ≡ with_text heading old → length new ≡ 128
   heading-size e = ap length e ∙ with_size heading old size (omega arith)

@@ -9,7 +9,7 @@ use lib.ListN.{length, get_or, take, drop, set, length-drop, length-append, leng
 use lib.Seq.{take-take, take-length, take-set-le, drop-cons, lt-length-set, get_or-set_same, drop-set-lt, paste, paste-suc}
 use lib.Seq.{length-take-le, take_at, drop_at}
 use Rattle.report.specs.Text.{digits, decimal}
-use Rattle.report.specs.Placed.{start_in, withText}
+use Rattle.report.specs.Placed.{start_in, with_text}
 use Rattle.report.specs.Inner.{Put}
 
 -- ---- text before a place
@@ -42,8 +42,8 @@ module _ {old new text : List ℕ} {end from : ℕ} (size : length old ≡ end) 
   unfolding start_in
   put-start = omega (arith, p.ends)
 
-  pub put_all : new ≡ withText text old
-  unfolding withText
+  pub put_all : new ≡ with_text text old
+  unfolding with_text
   put_all =
       let l : length old ≤ end = omega arith in
       sym (take-append-drop from new)

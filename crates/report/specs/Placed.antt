@@ -10,5 +10,5 @@ abbrev pub start_of : List ℕ → ℕ
 start_of text = start_in 128 text
 
 -- the buffer then, whose octets before the text are as they were
-unfoldable pub withText : List ℕ → List ℕ → List ℕ
-withText text old = take (start_in (length old) text) old ++ text
+unfoldable pub with_text : List ℕ → List ℕ → List ℕ
+with_text text old = take (start_in (length old) text) old ++ text

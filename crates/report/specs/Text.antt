@@ -11,40 +11,40 @@ abbrev pub heading : List ℕ
 heading = 99 ∷ 97 ∷ 114 ∷ 114 ∷ 105 ∷ 101 ∷ 114 ∷ 32 ∷ 114 ∷ 101 ∷ 112 ∷ 111 ∷ 114 ∷ 116 ∷ 32 ∷ 49 ∷ 10 ∷ []
 
 -- " aes3 ok "
-abbrev pub aes3Ok : List ℕ
-aes3Ok = 32 ∷ 97 ∷ 101 ∷ 115 ∷ 51 ∷ 32 ∷ 111 ∷ 107 ∷ 32 ∷ []
+abbrev pub aes3_ok : List ℕ
+aes3_ok = 32 ∷ 97 ∷ 101 ∷ 115 ∷ 51 ∷ 32 ∷ 111 ∷ 107 ∷ 32 ∷ []
 
 -- " hd ok "
-abbrev pub hdOk : List ℕ
-hdOk = 32 ∷ 104 ∷ 100 ∷ 32 ∷ 111 ∷ 107 ∷ 32 ∷ []
+abbrev pub hd_ok : List ℕ
+hd_ok = 32 ∷ 104 ∷ 100 ∷ 32 ∷ 111 ∷ 107 ∷ 32 ∷ []
 
 -- " madi ok "
-abbrev pub madiOk : List ℕ
-madiOk = 32 ∷ 109 ∷ 97 ∷ 100 ∷ 105 ∷ 32 ∷ 111 ∷ 107 ∷ 32 ∷ []
+abbrev pub madi_ok : List ℕ
+madi_ok = 32 ∷ 109 ∷ 97 ∷ 100 ∷ 105 ∷ 32 ∷ 111 ∷ 107 ∷ 32 ∷ []
 
 -- " ctl ok "
-abbrev pub ctlOk : List ℕ
-ctlOk = 32 ∷ 99 ∷ 116 ∷ 108 ∷ 32 ∷ 111 ∷ 107 ∷ 32 ∷ []
+abbrev pub ctl_ok : List ℕ
+ctl_ok = 32 ∷ 99 ∷ 116 ∷ 108 ∷ 32 ∷ 111 ∷ 107 ∷ 32 ∷ []
 
 -- " refused "
-abbrev pub refusedWord : List ℕ
-refusedWord = 32 ∷ 114 ∷ 101 ∷ 102 ∷ 117 ∷ 115 ∷ 101 ∷ 100 ∷ 32 ∷ []
+abbrev pub refused_word : List ℕ
+refused_word = 32 ∷ 114 ∷ 101 ∷ 102 ∷ 117 ∷ 115 ∷ 101 ∷ 100 ∷ 32 ∷ []
 
 -- " "
 abbrev pub blank : List ℕ
 blank = 32 ∷ []
 
 -- "\n"
-abbrev pub lineEnd : List ℕ
-lineEnd = 10 ∷ []
+abbrev pub line_end : List ℕ
+line_end = 10 ∷ []
 
 -- "cut\n"
-abbrev pub cutLine : List ℕ
-cutLine = 99 ∷ 117 ∷ 116 ∷ 10 ∷ []
+abbrev pub cut_line : List ℕ
+cut_line = 99 ∷ 117 ∷ 116 ∷ 10 ∷ []
 
 -- "records "
-abbrev pub recordsWord : List ℕ
-recordsWord = 114 ∷ 101 ∷ 99 ∷ 111 ∷ 114 ∷ 100 ∷ 115 ∷ 32 ∷ []
+abbrev pub records_word : List ℕ
+records_word = 114 ∷ 101 ∷ 99 ∷ 111 ∷ 114 ∷ 100 ∷ 115 ∷ 32 ∷ []
 
 -- ---- numbers
 
@@ -60,25 +60,25 @@ decimal n = digits 20 n
 -- ---- lines
 
 -- a word and one number
-unfoldable pub singleText : List ℕ → ℕ → List ℕ
-singleText word a = word ++ decimal a ++ lineEnd
+unfoldable pub single_text : List ℕ → ℕ → List ℕ
+single_text word a = word ++ decimal a ++ line_end
 
 -- a word and two numbers
-unfoldable pub pairText : List ℕ → ℕ → ℕ → List ℕ
-pairText word a b = word ++ decimal a ++ blank ++ decimal b ++ lineEnd
+unfoldable pub pair_text : List ℕ → ℕ → ℕ → List ℕ
+pair_text word a b = word ++ decimal a ++ blank ++ decimal b ++ line_end
 
 -- what is answered of a record
-unfoldable pub answerText : Answer Content → List ℕ
-answerText (accepted (aes3 a b)) = pairText aes3Ok a b
-answerText (accepted (hd group dbn)) = pairText hdOk group dbn
-answerText (accepted (madi active commands)) = pairText madiOk active commands
-answerText (accepted (ctl group)) = singleText ctlOk group
-answerText (refused number place) = pairText refusedWord number place
+unfoldable pub answer_text : Answer Content → List ℕ
+answer_text (accepted (aes3 a b)) = pair_text aes3_ok a b
+answer_text (accepted (hd group dbn)) = pair_text hd_ok group dbn
+answer_text (accepted (madi active commands)) = pair_text madi_ok active commands
+answer_text (accepted (ctl group)) = single_text ctl_ok group
+answer_text (refused number place) = pair_text refused_word number place
 
 -- the line of record n
 unfoldable pub line_of : ℕ → Answer Content → List ℕ
-line_of n answer = decimal n ++ answerText answer
+line_of n answer = decimal n ++ answer_text answer
 
 -- the line that ends the report
-unfoldable pub countLine : ℕ → List ℕ
-countLine n = singleText recordsWord n
+unfoldable pub count_line : ℕ → List ℕ
+count_line n = single_text records_word n

@@ -2,12 +2,12 @@
 // Each text is made at the end of a lent buffer, and the function that makes it answers where it starts.
 ghost use Rattle.std.specs.Prelude.{◌≡◌, ◌++◌, ◌+◌, ◌≤◌, ◌<◌, length};
 ghost use Rattle.answer.specs.Answer.{Answer.refused};
-ghost use Rattle.records.specs.Record.{outcomeSaid, recordAnswer};
-ghost use Rattle.report.specs.Text.{heading, cutLine, answerText, line_of, countLine};
-ghost use Rattle.report.specs.Placed.{start_in, start_of, withText};
-ghost use Rattle.report.specs.Inner.{Put, tailText};
+ghost use Rattle.records.specs.Record.{outcome_said, record_answer};
+ghost use Rattle.report.specs.Text.{heading, cut_line, answer_text, line_of, count_line};
+ghost use Rattle.report.specs.Placed.{start_in, start_of, with_text};
+ghost use Rattle.report.specs.Inner.{Put, tail_text};
 ghost use Rattle.report.specs.Report.{going, printed, step_of};
-ghost use Rattle.report.specs.Night.{name_of, lastText, groupLine, refusedCount, refusedLine, refusedLines, groupLines, endText, nightHeading, figuresText};
+ghost use Rattle.report.specs.Night.{name_of, last_text, group_line, refused_count, refused_line, refused_lines, group_lines, end_text, night_heading, figures_text};
 
 mod text;
 
@@ -27,7 +27,7 @@ pub struct Step {
 
 fn put_outcome(out: &mut [u8], end: usize, o: Outcome) -> usize
     requires { (51 ≤ end) × (end ≤ length out.old) }
-    ensures put { Put out.old end (answerText (outcomeSaid o)) result out.new }
+    ensures put { Put out.old end (answer_text (outcome_said o)) result out.new }
     ensures end_bound { end ≤ result + 51 }
 {
     match o {
@@ -48,7 +48,7 @@ fn put_outcome(out: &mut [u8], end: usize, o: Outcome) -> usize
 // The line of record n.
 fn put_line(out: &mut [u8], end: usize, n: u64, o: Outcome) -> usize
     requires { (71 ≤ end) × (end ≤ length out.old) }
-    ensures { Put out.old end (line_of n (outcomeSaid o)) result out.new }
+    ensures { Put out.old end (line_of n (outcome_said o)) result out.new }
 {
     let t = put_outcome(out, end, o);
     text::put_number(out, t, n)
@@ -57,7 +57,7 @@ fn put_line(out: &mut [u8], end: usize, n: u64, o: Outcome) -> usize
 // The line that ends the report, at the end of the buffer.
 fn put_count(out: &mut [u8], n: u64) -> usize
     requires { length out.old ≡ 128 }
-    ensures put { Put out.old 128 (countLine n) result out.new }
+    ensures put { Put out.old 128 (count_line n) result out.new }
     ensures lower_bound { 99 ≤ result }
 {
     text::put_single(out, 128, b"records ", n)
@@ -68,23 +68,23 @@ fn put_count(out: &mut [u8], n: u64) -> usize
 // The report's first line.
 pub fn begin(out: &mut [u8; 128]) -> usize
     ensures value { result ≡ start_of heading }
-    ensures out_after { out.new ≡ withText heading out.old }
+    ensures out_after { out.new ≡ with_text heading out.old }
 {
     text::put(out, 128, b"carrier report 1\n")
 }
 
 // The line that ends the report.
 fn count_line(n: u64, out: &mut [u8; 128]) -> usize
-    ensures value { result ≡ start_of (countLine n) }
-    ensures out_after { out.new ≡ withText (countLine n) out.old }
+    ensures value { result ≡ start_of (count_line n) }
+    ensures out_after { out.new ≡ with_text (count_line n) out.old }
 {
     put_count(out, n)
 }
 
 // That line behind the word that the input was cut.
 fn cut_short(n: u64, out: &mut [u8; 128]) -> usize
-    ensures value { result ≡ start_of (cutLine ++ countLine n) }
-    ensures out_after { out.new ≡ withText (cutLine ++ countLine n) out.old }
+    ensures value { result ≡ start_of (cut_line ++ count_line n) }
+    ensures out_after { out.new ≡ with_text (cut_line ++ count_line n) out.old }
 {
     let t = put_count(out, n);
     text::put(out, t, b"cut\n")
@@ -92,8 +92,8 @@ fn cut_short(n: u64, out: &mut [u8; 128]) -> usize
 
 // That line behind that of record n, which is too long.
 fn too_long(n: u64, out: &mut [u8; 128]) -> usize
-    ensures value { result ≡ start_of (line_of n (refused 2 0) ++ countLine n) }
-    ensures out_after { out.new ≡ withText (line_of n (refused 2 0) ++ countLine n) out.old }
+    ensures value { result ≡ start_of (line_of n (refused 2 0) ++ count_line n) }
+    ensures out_after { out.new ≡ with_text (line_of n (refused 2 0) ++ count_line n) out.old }
 {
     let t = put_count(out, n);
     put_line(
@@ -111,8 +111,8 @@ fn too_long(n: u64, out: &mut [u8; 128]) -> usize
 
 // What record n comes to.
 fn print_record(n: u64, body: &[u8], out: &mut [u8; 128]) -> Step
-    ensures value { result ≡ step_of (going n (line_of n (recordAnswer body.now))) }
-    ensures out_after { out.new ≡ withText (line_of n (recordAnswer body.now)) out.old }
+    ensures value { result ≡ step_of (going n (line_of n (record_answer body.now))) }
+    ensures out_after { out.new ≡ with_text (line_of n (record_answer body.now)) out.old }
 {
     Step {
         from: put_line(out, 128, n, records::judge(body)),
@@ -124,7 +124,7 @@ fn print_record(n: u64, body: &[u8], out: &mut [u8; 128]) -> Step
 // What a header and the octets read after it come to, after n records.
 pub fn print(n: u64, head: &[u8], body: &[u8], out: &mut [u8; 128]) -> Step
     ensures value { result ≡ step_of (printed n head.now body.now) }
-    ensures out_after { out.new ≡ withText (printed n head.now body.now).text out.old }
+    ensures out_after { out.new ≡ with_text (printed n head.now body.now).text out.old }
 {
     match records::turn_after(n, head, body.len()) {
         Turn::End(count) => Step {
@@ -163,7 +163,7 @@ fn put_name(out: &mut [u8], end: usize, group: u32) -> usize
 // The last DBN, or none.
 fn put_last(out: &mut [u8], end: usize, seen: u32, last: u32) -> usize
     requires { (26 ≤ end) × (end ≤ length out.old) }
-    ensures put { Put out.old end (lastText seen last) result out.new }
+    ensures put { Put out.old end (last_text seen last) result out.new }
     ensures end_bound { end ≤ result + 26 }
 {
     if seen == 0 {
@@ -175,7 +175,7 @@ fn put_last(out: &mut [u8], end: usize, seen: u32, last: u32) -> usize
 // How the line of a group ends, whose figures start at a place.
 fn put_tail(out: &mut [u8], end: usize, figures: &[u32; 110], at: usize) -> usize
     requires { (at ≤ 69) × (55 ≤ end) × (end ≤ length out.old) }
-    ensures put { Put out.old end (tailText figures.now at) result out.new }
+    ensures put { Put out.old end (tail_text figures.now at) result out.new }
     ensures end_bound { end ≤ result + 55 }
 {
     let seen = figures[at + 20];
@@ -188,7 +188,7 @@ fn put_tail(out: &mut [u8], end: usize, figures: &[u32; 110], at: usize) -> usiz
 // The line of a group.
 fn put_group(out: &mut [u8], end: usize, figures: &[u32; 110], group: u32) -> usize
     requires { (1 ≤ group) × (group ≤ 4) × (134 ≤ end) × (end ≤ length out.old) }
-    ensures put { Put out.old end (groupLine figures.now group) result out.new }
+    ensures put { Put out.old end (group_line figures.now group) result out.new }
     ensures end_bound { end ≤ result + 134 }
 {
     let at = 23 * (group as usize - 1);
@@ -203,7 +203,7 @@ fn put_group(out: &mut [u8], end: usize, figures: &[u32; 110], group: u32) -> us
 // How many packets were refused by a number: of a group, or, for 0, of those without one.
 fn refused_count(figures: &[u32; 110], group: u32, n: u32) -> u32
     requires { (group ≤ 4) × (n < 18) }
-    ensures { result ≡ refusedCount figures.now group n }
+    ensures { result ≡ refused_count figures.now group n }
 {
     if group == 0 {
         return figures[92 + n as usize];
@@ -214,7 +214,7 @@ fn refused_count(figures: &[u32; 110], group: u32, n: u32) -> u32
 // Their line, where there are some.
 fn put_refused(out: &mut [u8], end: usize, figures: &[u32; 110], group: u32, n: u32) -> usize
     requires { (group ≤ 4) × (n < 18) × (77 ≤ end) × (end ≤ length out.old) }
-    ensures put { Put out.old end (refusedLine figures.now group n) result out.new }
+    ensures put { Put out.old end (refused_line figures.now group n) result out.new }
     ensures end_bound { end ≤ result + 77 }
 {
     let count = refused_count(figures, group, n);
@@ -228,7 +228,7 @@ fn put_refused(out: &mut [u8], end: usize, figures: &[u32; 110], group: u32, n: 
 // The lines of all numbers, the last of them first.
 fn put_refusals(out: &mut [u8], end: usize, figures: &[u32; 110], group: u32) -> usize
     requires { (group ≤ 4) × (1386 ≤ end) × (end ≤ length out.old) }
-    ensures put { Put out.old end (refusedLines figures.now group) result out.new }
+    ensures put { Put out.old end (refused_lines figures.now group) result out.new }
     ensures end_bound { end ≤ result + 1386 }
 {
     let mut at = end;
@@ -243,7 +243,7 @@ fn put_refusals(out: &mut [u8], end: usize, figures: &[u32; 110], group: u32) ->
 // A group's line and those of its refused packets.
 fn put_lines(out: &mut [u8], end: usize, figures: &[u32; 110], group: u32) -> usize
     requires { (1 ≤ group) × (group ≤ 4) × (1520 ≤ end) × (end ≤ length out.old) }
-    ensures put { Put out.old end (groupLines figures.now group) result out.new }
+    ensures put { Put out.old end (group_lines figures.now group) result out.new }
     ensures end_bound { end ≤ result + 1520 }
 {
     let t = put_refusals(out, end, figures, group);
@@ -252,7 +252,7 @@ fn put_lines(out: &mut [u8], end: usize, figures: &[u32; 110], group: u32) -> us
 
 fn put_end(out: &mut [u8], end: usize, next: Next) -> usize
     requires { (5 ≤ end) × (end ≤ length out.old) }
-    ensures put { Put out.old end (endText next) result out.new }
+    ensures put { Put out.old end (end_text next) result out.new }
     ensures end_bound { end ≤ result + 5 }
 {
     match next {
@@ -266,16 +266,16 @@ fn put_end(out: &mut [u8], end: usize, next: Next) -> usize
 
 // The first line of a replay.
 pub fn begin_replay(out: &mut [u8; 8192]) -> usize
-    ensures value { result ≡ start_in 8192 nightHeading }
-    ensures out_after { out.new ≡ withText nightHeading out.old }
+    ensures value { result ≡ start_in 8192 night_heading }
+    ensures out_after { out.new ≡ with_text night_heading out.old }
 {
     text::put(out, 8192, b"packet replay 1\n")
 }
 
 // All other lines, of a replay that came to these figures and ended so.
 pub fn end_replay(figures: &[u32; 110], next: Next, out: &mut [u8; 8192]) -> usize
-    ensures value { result ≡ start_in 8192 (figuresText figures.now next) }
-    ensures out_after { out.new ≡ withText (figuresText figures.now next) out.old }
+    ensures value { result ≡ start_in 8192 (figures_text figures.now next) }
+    ensures out_after { out.new ≡ with_text (figures_text figures.now next) out.old }
 {
     let t = put_end(out, 8192, next);
     let t = put_refusals(out, t, figures, 0);

@@ -1,8 +1,8 @@
 // Text, put before a place of a buffer; each function answers where the text starts. A line is so made from its end, as
 // the digits of a number are, and nothing is copied.
 ghost use Rattle.std.specs.Prelude.{◌≡◌, ◌∷◌, [], ◌+◌, ◌≤◌, length};
-ghost use Rattle.report.specs.Text.{decimal, singleText, pairText};
-ghost use Rattle.report.specs.Night.{fieldText};
+ghost use Rattle.report.specs.Text.{decimal, single_text, pair_text};
+ghost use Rattle.report.specs.Night.{field_text};
 ghost use Rattle.report.specs.Inner.{Put};
 
 fn put_octet(out: &mut [u8], end: usize, x: u8) -> usize
@@ -56,7 +56,7 @@ pub(crate) fn wide(n: u32) -> u64
 // A word and a number, which end the line.
 pub(crate) fn put_single(out: &mut [u8], end: usize, word: &[u8], a: u64) -> usize
     requires { (length word.now + 21 ≤ end) × (end ≤ length out.old) }
-    ensures put { Put out.old end (singleText word.now a) result out.new }
+    ensures put { Put out.old end (single_text word.now a) result out.new }
     ensures end_bound { end ≤ result + length word.now + 21 }
 {
     let t = put_octet(out, end, b'\n');
@@ -67,7 +67,7 @@ pub(crate) fn put_single(out: &mut [u8], end: usize, word: &[u8], a: u64) -> usi
 // A word and two numbers, which end the line.
 pub(crate) fn put_pair(out: &mut [u8], end: usize, word: &[u8], a: u32, b: u32) -> usize
     requires { (length word.now + 42 ≤ end) × (end ≤ length out.old) }
-    ensures put { Put out.old end (pairText word.now a b) result out.new }
+    ensures put { Put out.old end (pair_text word.now a b) result out.new }
     ensures end_bound { end ≤ result + length word.now + 42 }
 {
     let t = put_octet(out, end, b'\n');
@@ -80,7 +80,7 @@ pub(crate) fn put_pair(out: &mut [u8], end: usize, word: &[u8], a: u32, b: u32) 
 // A word and a number.
 pub(crate) fn put_field(out: &mut [u8], end: usize, word: &[u8], n: u32) -> usize
     requires { (length word.now + 20 ≤ end) × (end ≤ length out.old) }
-    ensures put { Put out.old end (fieldText word.now n) result out.new }
+    ensures put { Put out.old end (field_text word.now n) result out.new }
     ensures end_bound { end ≤ result + length word.now + 20 }
 {
     let t = put_number(out, end, n as u64);

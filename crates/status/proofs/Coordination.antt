@@ -5,17 +5,17 @@ use Prim.Native.Nat.{ℕ}
 use borrow.Author.Tests.{eqb-true}
 use lib.Dec.{eqb}
 use Rattle.bits.proofs.Tests.{pick-cases}
-use Rattle.status.specs.Meaning.{in_table, auxiliaryOf}
+use Rattle.status.specs.Meaning.{in_table, auxiliary_of}
 use Rattle.status.specs.declared.Auxiliary.{Auxiliary}
 use Rattle.status.specs.declared.Auxiliary.TheVariants as auxiliary
 
-pub state-coordination : auxiliaryOf 0b010 ≡ auxiliary.Coordination
-unfolding auxiliaryOf in_table
+pub state-coordination : auxiliary_of 0b010 ≡ auxiliary.Coordination
+unfolding auxiliary_of in_table
 state-coordination = refl
 
 -- no other row says it, and no state without a row
-pub coordination-state : (x : ℕ) → auxiliaryOf x ≡ auxiliary.Coordination → x ≡ 0b010
-unfolding auxiliaryOf in_table
+pub coordination-state : (x : ℕ) → auxiliary_of x ≡ auxiliary.Coordination → x ≡ 0b010
+unfolding auxiliary_of in_table
 coordination-state x =
     let Says : Auxiliary → Type 0 = λ a. a ≡ auxiliary.Coordination → x ≡ 0b010 in
     let users : List (ℕ × Auxiliary) = (0b110, auxiliary.UserDefined) ∷ [] in

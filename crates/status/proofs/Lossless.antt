@@ -15,51 +15,51 @@ use Rattle.bits.proofs.Digits.{digit-cases}
 use Rattle.status.specs.declared.Description.{Description}
 use Rattle.status.specs.declared.Audio.TheVariants.{LinearPcm, OtherPurpose}
 use Rattle.status.specs.declared.Use.TheVariants.{Professional}
-use Rattle.status.specs.Meaning.{in_table, emphasisOf, lockOf, rateOf, mode_of, userOf, auxiliaryOf, wordLengthUpTo24, wordLengthUpTo20, wordLengthOf, alignmentOf, describedBy, meaningOf}
-use Rattle.status.specs.Numbers.{emphasisNumber, lockNumber, rateNumber, modeNumber, userNumber, auxiliaryNumber, wordLengthNumber, alignmentNumber, numbersBy, numbersOf, consumerNumbers}
-use Rattle.status.proofs.Back.{bits_of, wordBits, emphasisRows, lockRows, rateRows, modeRows, userRows, auxiliaryRows, alignmentRows, byte0Of, byte1Of, byte2Of, bytes_of}
+use Rattle.status.specs.Meaning.{in_table, emphasis_of, lock_of, rate_of, mode_of, user_of, auxiliary_of, word_length_up_to24, word_length_up_to20, word_length_of, alignment_of, described_by, meaning_of}
+use Rattle.status.specs.Numbers.{emphasis_number, lock_number, rate_number, mode_number, user_number, auxiliary_number, word_length_number, alignment_number, numbers_by, numbers_of, consumer_numbers}
+use Rattle.status.proofs.Back.{bits_of, word_bits, emphasis_rows, lock_rows, rate_rows, mode_rows, user_rows, auxiliary_rows, alignment_rows, byte0_of, byte1_of, byte2_of, bytes_of}
 
 -- ---- field by field
 
-emphasis-back : (x : ℕ) → x < 8 → bits_of emphasisRows (emphasisNumber (emphasisOf x)).state (emphasisNumber (emphasisOf x)).bits ≡ x
-unfolding bits_of emphasisOf in_table
-emphasis-back = agree 8 (λ x. bits_of emphasisRows (emphasisNumber (emphasisOf x)).state (emphasisNumber (emphasisOf x)).bits) (λ x. x) tt
+emphasis-back : (x : ℕ) → x < 8 → bits_of emphasis_rows (emphasis_number (emphasis_of x)).state (emphasis_number (emphasis_of x)).bits ≡ x
+unfolding bits_of emphasis_of in_table
+emphasis-back = agree 8 (λ x. bits_of emphasis_rows (emphasis_number (emphasis_of x)).state (emphasis_number (emphasis_of x)).bits) (λ x. x) tt
 
-lock-back : (x : ℕ) → x < 2 → bits_of lockRows (lockNumber (lockOf x)) 0 ≡ x
-unfolding bits_of lockOf in_table
-lock-back = agree 2 (λ x. bits_of lockRows (lockNumber (lockOf x)) 0) (λ x. x) tt
+lock-back : (x : ℕ) → x < 2 → bits_of lock_rows (lock_number (lock_of x)) 0 ≡ x
+unfolding bits_of lock_of in_table
+lock-back = agree 2 (λ x. bits_of lock_rows (lock_number (lock_of x)) 0) (λ x. x) tt
 
-rate-back : (x : ℕ) → x < 4 → bits_of rateRows (rateNumber (rateOf x)) 0 ≡ x
-unfolding bits_of rateOf in_table
-rate-back = agree 4 (λ x. bits_of rateRows (rateNumber (rateOf x)) 0) (λ x. x) tt
+rate-back : (x : ℕ) → x < 4 → bits_of rate_rows (rate_number (rate_of x)) 0 ≡ x
+unfolding bits_of rate_of in_table
+rate-back = agree 4 (λ x. bits_of rate_rows (rate_number (rate_of x)) 0) (λ x. x) tt
 
-mode-back : (x : ℕ) → x < 16 → bits_of modeRows (modeNumber (mode_of x)).state (modeNumber (mode_of x)).bits ≡ x
+mode-back : (x : ℕ) → x < 16 → bits_of mode_rows (mode_number (mode_of x)).state (mode_number (mode_of x)).bits ≡ x
 unfolding bits_of mode_of in_table
-mode-back = agree 16 (λ x. bits_of modeRows (modeNumber (mode_of x)).state (modeNumber (mode_of x)).bits) (λ x. x) tt
+mode-back = agree 16 (λ x. bits_of mode_rows (mode_number (mode_of x)).state (mode_number (mode_of x)).bits) (λ x. x) tt
 
-user-back : (x : ℕ) → x < 16 → bits_of userRows (userNumber (userOf x)).state (userNumber (userOf x)).bits ≡ x
-unfolding bits_of userOf in_table
-user-back = agree 16 (λ x. bits_of userRows (userNumber (userOf x)).state (userNumber (userOf x)).bits) (λ x. x) tt
+user-back : (x : ℕ) → x < 16 → bits_of user_rows (user_number (user_of x)).state (user_number (user_of x)).bits ≡ x
+unfolding bits_of user_of in_table
+user-back = agree 16 (λ x. bits_of user_rows (user_number (user_of x)).state (user_number (user_of x)).bits) (λ x. x) tt
 
-auxiliary-back : (x : ℕ) → x < 8 → bits_of auxiliaryRows (auxiliaryNumber (auxiliaryOf x)).state (auxiliaryNumber (auxiliaryOf x)).bits ≡ x
-unfolding bits_of auxiliaryOf in_table
+auxiliary-back : (x : ℕ) → x < 8 → bits_of auxiliary_rows (auxiliary_number (auxiliary_of x)).state (auxiliary_number (auxiliary_of x)).bits ≡ x
+unfolding bits_of auxiliary_of in_table
 auxiliary-back =
-    agree 8 (λ x. bits_of auxiliaryRows (auxiliaryNumber (auxiliaryOf x)).state (auxiliaryNumber (auxiliaryOf x)).bits) (λ x. x) tt
+    agree 8 (λ x. bits_of auxiliary_rows (auxiliary_number (auxiliary_of x)).state (auxiliary_number (auxiliary_of x)).bits) (λ x. x) tt
 
 -- the word length beside each use of the auxiliary bits, bits 0 to 5 of the byte
 abbrev word : ℕ → ℕ → ℕ
 word auxiliary x =
-    wordBits auxiliary (wordLengthNumber (wordLengthOf (auxiliaryOf auxiliary) x)).state
-    (wordLengthNumber (wordLengthOf (auxiliaryOf auxiliary) x)).bits
+    word_bits auxiliary (word_length_number (word_length_of (auxiliary_of auxiliary) x)).state
+    (word_length_number (word_length_of (auxiliary_of auxiliary) x)).bits
 
 word_back : (x : ℕ) → x < 64 → word (x % 8) (x / 8) ≡ x / 8
-unfolding wordBits wordLengthOf wordLengthUpTo24 wordLengthUpTo20 auxiliaryOf in_table
+unfolding word_bits word_length_of word_length_up_to24 word_length_up_to20 auxiliary_of in_table
 word_back = agree 64 (λ x. word (x % 8) (x / 8)) (λ x. x / 8) tt
 
-alignment-back : (x : ℕ) → x < 4 → bits_of alignmentRows (alignmentNumber (alignmentOf x)).state (alignmentNumber (alignmentOf x)).bits ≡ x
-unfolding bits_of alignmentOf in_table
+alignment-back : (x : ℕ) → x < 4 → bits_of alignment_rows (alignment_number (alignment_of x)).state (alignment_number (alignment_of x)).bits ≡ x
+unfolding bits_of alignment_of in_table
 alignment-back =
-    agree 4 (λ x. bits_of alignmentRows (alignmentNumber (alignmentOf x)).state (alignmentNumber (alignmentOf x)).bits) (λ x. x) tt
+    agree 4 (λ x. bits_of alignment_rows (alignment_number (alignment_of x)).state (alignment_number (alignment_of x)).bits) (λ x. x) tt
 
 -- ---- byte by byte
 
@@ -76,29 +76,29 @@ pub record ProfessionalBytes (byte0 byte1 byte2 : ℕ) : Type 0 where
 
 module _ (byte0 byte1 byte2 : ℕ) (p : ProfessionalBytes byte0 byte1 byte2) where
   -- the numbers are those of the description, and bit 1
-  by-description : numbersOf (meaningOf byte0 byte1 byte2) ≡ numbersBy (byte0 / 2 % 2) (describedBy byte0 byte1 byte2)
-  unfolding meaningOf numbersOf
+  by-description : numbers_of (meaning_of byte0 byte1 byte2) ≡ numbers_by (byte0 / 2 % 2) (described_by byte0 byte1 byte2)
+  unfolding meaning_of numbers_of
   by-description =
-      rw (div-one byte0, ne_eqb (byte0 % 2) 0 (omega arith)) (purpose (describedBy byte0 byte1 byte2) (byte0 / 2 % 2) (omega arith))
+      rw (div-one byte0, ne_eqb (byte0 % 2) 0 (omega arith)) (purpose (described_by byte0 byte1 byte2) (byte0 / 2 % 2) (omega arith))
     where
       purpose : (d : Description) (x : ℕ) → x < 2
-          → numbersOf (Professional (pick (eqb x 0) (LinearPcm d) (OtherPurpose d))) ≡ numbersBy x d
+          → numbers_of (Professional (pick (eqb x 0) (LinearPcm d) (OtherPurpose d))) ≡ numbers_by x d
       purpose d =
-          digit-cases (λ (x : ℕ). numbersOf (Professional (pick (eqb x 0) (LinearPcm d) (OtherPurpose d))) ≡ numbersBy x d) refl refl
+          digit-cases (λ (x : ℕ). numbers_of (Professional (pick (eqb x 0) (LinearPcm d) (OtherPurpose d))) ≡ numbers_by x d) refl refl
 
-  byte0-back : byte0Of (numbersBy (byte0 / 2 % 2) (describedBy byte0 byte1 byte2)) ≡ byte0
-  unfolding byte0Of numbersBy describedBy
+  byte0-back : byte0_of (numbers_by (byte0 / 2 % 2) (described_by byte0 byte1 byte2)) ≡ byte0
+  unfolding byte0_of numbers_by described_by
   byte0-back =
       rw (emphasis-back (byte0 / 4 % 8) (omega arith), lock-back (byte0 / 32 % 2) (omega arith), rate-back (byte0 / 64 % 4) (omega arith))
       (rw p.professional at (split byte0 p.octet0))
 
-  byte1-back : (purpose : ℕ) → byte1Of (numbersBy purpose (describedBy byte0 byte1 byte2)) ≡ byte1
-  unfolding byte1Of numbersBy describedBy
+  byte1-back : (purpose : ℕ) → byte1_of (numbers_by purpose (described_by byte0 byte1 byte2)) ≡ byte1
+  unfolding byte1_of numbers_by described_by
   byte1-back purpose =
       rw (div-one byte1, mode-back (byte1 % 16) (omega arith), user-back (byte1 / 16 % 16) (omega arith)) (omega arith)
 
-  byte2-back : (purpose : ℕ) → byte2Of (numbersBy purpose (describedBy byte0 byte1 byte2)) ≡ byte2
-  unfolding byte2Of numbersBy describedBy
+  byte2-back : (purpose : ℕ) → byte2_of (numbers_by purpose (described_by byte0 byte1 byte2)) ≡ byte2
+  unfolding byte2_of numbers_by described_by
   byte2-back purpose =
       let a : byte2 % 64 % 8 ≡ byte2 % 8 = omega arith in
       let b : byte2 % 64 / 8 ≡ byte2 / 8 % 8 = above byte2 3 3 in
@@ -109,19 +109,19 @@ module _ (byte0 byte1 byte2 : ℕ) (p : ProfessionalBytes byte0 byte1 byte2) whe
         alignment-back (byte2 / 64 % 4) (omega arith),
       ) (omega arith)
 
-  pub read_back : bytes_of (numbersOf (meaningOf byte0 byte1 byte2)) ≡ byte0 ∷ byte1 ∷ byte2 ∷ []
+  pub read_back : bytes_of (numbers_of (meaning_of byte0 byte1 byte2)) ≡ byte0 ∷ byte1 ∷ byte2 ∷ []
   unfolding bytes_of
   read_back = rw (by-description, byte0-back, byte1-back, byte2-back)
 
 -- two status blocks of professional use with the same numbers, so with the same meaning, have the same bytes 0 to 2
 module _ (a0 a1 a2 b0 b1 b2 : ℕ) (a : ProfessionalBytes a0 a1 a2) (b : ProfessionalBytes b0 b1 b2) where
-  pub numbers-lose-nothing : numbersOf (meaningOf a0 a1 a2) ≡ numbersOf (meaningOf b0 b1 b2) → a0 ∷ a1 ∷ a2 ∷ [] ≡ b0 ∷ b1 ∷ b2 ∷ []
+  pub numbers-lose-nothing : numbers_of (meaning_of a0 a1 a2) ≡ numbers_of (meaning_of b0 b1 b2) → a0 ∷ a1 ∷ a2 ∷ [] ≡ b0 ∷ b1 ∷ b2 ∷ []
   numbers-lose-nothing e = sym (read_back a0 a1 a2 a) ∙ ap bytes_of e ∙ read_back b0 b1 b2 b
 
-  pub meaning-loses-nothing : meaningOf a0 a1 a2 ≡ meaningOf b0 b1 b2 → a0 ∷ a1 ∷ a2 ∷ [] ≡ b0 ∷ b1 ∷ b2 ∷ []
-  meaning-loses-nothing e = numbers-lose-nothing (ap numbersOf e)
+  pub meaning-loses-nothing : meaning_of a0 a1 a2 ≡ meaning_of b0 b1 b2 → a0 ∷ a1 ∷ a2 ∷ [] ≡ b0 ∷ b1 ∷ b2 ∷ []
+  meaning-loses-nothing e = numbers-lose-nothing (ap numbers_of e)
 
 -- three octets of 0 are consumer use, with all its numbers 0
-pub nothing-is-consumer : numbersOf (meaningOf 0 0 0) ≡ consumerNumbers
-unfolding meaningOf numbersOf
+pub nothing-is-consumer : numbers_of (meaning_of 0 0 0) ≡ consumer_numbers
+unfolding meaning_of numbers_of
 nothing-is-consumer = refl

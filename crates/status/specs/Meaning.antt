@@ -36,20 +36,20 @@ in_table (row ∷ rows) other x = pick (eqb x row.0) row.1 (in_table rows other 
 -- ---- byte 0
 
 -- bits 4 3 2
-unfoldable pub emphasisOf : ℕ → Emphasis
-emphasisOf x =
+unfoldable pub emphasis_of : ℕ → Emphasis
+emphasis_of x =
     in_table
     ((0b000, emphasis.NotIndicated) ∷ (0b001, emphasis.NoEmphasis) ∷ (0b011, emphasis.Micros50) ∷ (0b111, emphasis.J17) ∷ [])
     (emphasis.Reserved x)
     x
 
 -- bit 5
-unfoldable pub lockOf : ℕ → Lock
-lockOf x = in_table ((0b0, lock.NotIndicated) ∷ (0b1, lock.Unlocked) ∷ []) lock.NotIndicated x
+unfoldable pub lock_of : ℕ → Lock
+lock_of x = in_table ((0b0, lock.NotIndicated) ∷ (0b1, lock.Unlocked) ∷ []) lock.NotIndicated x
 
 -- bits 7 6
-unfoldable pub rateOf : ℕ → Rate
-rateOf x =
+unfoldable pub rate_of : ℕ → Rate
+rate_of x =
     in_table
     ((0b00, rate.NotIndicated) ∷ (0b10, rate.Hz48000) ∷ (0b01, rate.Hz44100) ∷ (0b11, rate.Hz32000) ∷ [])
     rate.NotIndicated
@@ -77,8 +77,8 @@ mode_of x =
     x
 
 -- bits 7 6 5 4
-unfoldable pub userOf : ℕ → User
-userOf x =
+unfoldable pub user_of : ℕ → User
+user_of x =
     in_table
     ((0b0000, user.NotIndicated)
     ∷ (0b1000, user.Block192)
@@ -94,8 +94,8 @@ userOf x =
 -- ---- byte 2
 
 -- bits 2 1 0
-unfoldable pub auxiliaryOf : ℕ → Auxiliary
-auxiliaryOf x =
+unfoldable pub auxiliary_of : ℕ → Auxiliary
+auxiliary_of x =
     in_table
     ((0b000, auxiliary.NotDefined)
     ∷ (0b100, auxiliary.MainAudio)
@@ -106,8 +106,8 @@ auxiliaryOf x =
     x
 
 -- bits 5 4 3, where the maximum is 24 bits
-unfoldable pub wordLengthUpTo24 : ℕ → WordLength
-wordLengthUpTo24 x =
+unfoldable pub word_length_up_to24 : ℕ → WordLength
+word_length_up_to24 x =
     in_table
     ((0b000, word.NotIndicated)
     ∷ (0b100, word.Bits 23)
@@ -120,8 +120,8 @@ wordLengthUpTo24 x =
     x
 
 -- the same bits, where the maximum is 20 bits
-unfoldable pub wordLengthUpTo20 : ℕ → WordLength
-wordLengthUpTo20 x =
+unfoldable pub word_length_up_to20 : ℕ → WordLength
+word_length_up_to20 x =
     in_table
     ((0b000, word.NotIndicated)
     ∷ (0b100, word.Bits 19)
@@ -134,16 +134,16 @@ wordLengthUpTo20 x =
     x
 
 -- the maximum is by the use of the auxiliary bits; under a reserved or user-defined use, reserved
-unfoldable pub wordLengthOf : Auxiliary → ℕ → WordLength
-wordLengthOf auxiliary.NotDefined x = wordLengthUpTo20 x
-wordLengthOf auxiliary.MainAudio x = wordLengthUpTo24 x
-wordLengthOf auxiliary.Coordination x = wordLengthUpTo20 x
-wordLengthOf auxiliary.UserDefined x = word.Reserved x
-wordLengthOf (auxiliary.Reserved y) x = word.Reserved x
+unfoldable pub word_length_of : Auxiliary → ℕ → WordLength
+word_length_of auxiliary.NotDefined x = word_length_up_to20 x
+word_length_of auxiliary.MainAudio x = word_length_up_to24 x
+word_length_of auxiliary.Coordination x = word_length_up_to20 x
+word_length_of auxiliary.UserDefined x = word.Reserved x
+word_length_of (auxiliary.Reserved y) x = word.Reserved x
 
 -- bits 7 6
-unfoldable pub alignmentOf : ℕ → Alignment
-alignmentOf x =
+unfoldable pub alignment_of : ℕ → Alignment
+alignment_of x =
     in_table
     ((0b00, alignment.NotIndicated) ∷ (0b10, alignment.Rp155) ∷ (0b01, alignment.R68) ∷ (0b11, alignment.Reserved 0b11) ∷ [])
     alignment.NotIndicated
@@ -151,23 +151,23 @@ alignmentOf x =
 
 -- ---- the three bytes
 
-unfoldable pub describedBy : ℕ → ℕ → ℕ → Description
-describedBy byte0 byte1 byte2 =
+unfoldable pub described_by : ℕ → ℕ → ℕ → Description
+described_by byte0 byte1 byte2 =
     record {
-      emphasis = emphasisOf (field 2 3 byte0);
-      lock = lockOf (field 5 1 byte0);
-      rate = rateOf (field 6 2 byte0);
+      emphasis = emphasis_of (field 2 3 byte0);
+      lock = lock_of (field 5 1 byte0);
+      rate = rate_of (field 6 2 byte0);
       mode = mode_of (field 0 4 byte1);
-      user = userOf (field 4 4 byte1);
-      auxiliary = auxiliaryOf (field 0 3 byte2);
-      word_length = wordLengthOf (auxiliaryOf (field 0 3 byte2)) (field 3 3 byte2);
-      alignment = alignmentOf (field 6 2 byte2);
+      user = user_of (field 4 4 byte1);
+      auxiliary = auxiliary_of (field 0 3 byte2);
+      word_length = word_length_of (auxiliary_of (field 0 3 byte2)) (field 3 3 byte2);
+      alignment = alignment_of (field 6 2 byte2);
     }
 
 -- bit 0 of byte 0 is the use: consumer use has nothing inside; bit 1 says whether a sample word is a linear-PCM sample
-unfoldable pub meaningOf : ℕ → ℕ → ℕ → Use
-meaningOf byte0 byte1 byte2 =
+unfoldable pub meaning_of : ℕ → ℕ → ℕ → Use
+meaning_of byte0 byte1 byte2 =
     pick (eqb (field 0 1 byte0) 0)
     Consumer
     (Professional
-    (pick (eqb (field 1 1 byte0) 0) (LinearPcm (describedBy byte0 byte1 byte2)) (OtherPurpose (describedBy byte0 byte1 byte2))))
+    (pick (eqb (field 1 1 byte0) 0) (LinearPcm (described_by byte0 byte1 byte2)) (OtherPurpose (described_by byte0 byte1 byte2))))

@@ -32,90 +32,90 @@ named n = record { state = n; bits = 0 }
 abbrev pub reserved : ℕ → StateNumber
 reserved x = record { state = 255; bits = x }
 
-abbrev pub emphasisNumber : Emphasis → StateNumber
-emphasisNumber emphasis.NotIndicated = named 0
-emphasisNumber emphasis.NoEmphasis = named 1
-emphasisNumber emphasis.Micros50 = named 2
-emphasisNumber emphasis.J17 = named 3
-emphasisNumber (emphasis.Reserved x) = reserved x
+abbrev pub emphasis_number : Emphasis → StateNumber
+emphasis_number emphasis.NotIndicated = named 0
+emphasis_number emphasis.NoEmphasis = named 1
+emphasis_number emphasis.Micros50 = named 2
+emphasis_number emphasis.J17 = named 3
+emphasis_number (emphasis.Reserved x) = reserved x
 
-abbrev pub lockNumber : Lock → ℕ
-lockNumber lock.NotIndicated = 0
-lockNumber lock.Unlocked = 1
+abbrev pub lock_number : Lock → ℕ
+lock_number lock.NotIndicated = 0
+lock_number lock.Unlocked = 1
 
-abbrev pub rateNumber : Rate → ℕ
-rateNumber rate.NotIndicated = 0
-rateNumber rate.Hz48000 = 1
-rateNumber rate.Hz44100 = 2
-rateNumber rate.Hz32000 = 3
+abbrev pub rate_number : Rate → ℕ
+rate_number rate.NotIndicated = 0
+rate_number rate.Hz48000 = 1
+rate_number rate.Hz44100 = 2
+rate_number rate.Hz32000 = 3
 
-abbrev pub modeNumber : Mode → StateNumber
-modeNumber mode.NotIndicated = named 0
-modeNumber mode.TwoChannel = named 1
-modeNumber mode.SingleChannel = named 2
-modeNumber mode.PrimarySecondary = named 3
-modeNumber mode.Stereophonic = named 4
-modeNumber mode.UserDefined1010 = named 5
-modeNumber mode.UserDefined0110 = named 6
-modeNumber mode.DoubleRate = named 7
-modeNumber mode.DoubleRateLeft = named 8
-modeNumber mode.DoubleRateRight = named 9
-modeNumber mode.Multichannel = named 10
-modeNumber (mode.Reserved x) = reserved x
+abbrev pub mode_number : Mode → StateNumber
+mode_number mode.NotIndicated = named 0
+mode_number mode.TwoChannel = named 1
+mode_number mode.SingleChannel = named 2
+mode_number mode.PrimarySecondary = named 3
+mode_number mode.Stereophonic = named 4
+mode_number mode.UserDefined1010 = named 5
+mode_number mode.UserDefined0110 = named 6
+mode_number mode.DoubleRate = named 7
+mode_number mode.DoubleRateLeft = named 8
+mode_number mode.DoubleRateRight = named 9
+mode_number mode.Multichannel = named 10
+mode_number (mode.Reserved x) = reserved x
 
-abbrev pub userNumber : User → StateNumber
-userNumber user.NotIndicated = named 0
-userNumber user.Block192 = named 1
-userNumber user.Aes18 = named 2
-userNumber user.UserDefined = named 3
-userNumber user.General = named 4
-userNumber user.Aes52 = named 5
-userNumber user.Iec62537 = named 6
-userNumber (user.Reserved x) = reserved x
+abbrev pub user_number : User → StateNumber
+user_number user.NotIndicated = named 0
+user_number user.Block192 = named 1
+user_number user.Aes18 = named 2
+user_number user.UserDefined = named 3
+user_number user.General = named 4
+user_number user.Aes52 = named 5
+user_number user.Iec62537 = named 6
+user_number (user.Reserved x) = reserved x
 
-abbrev pub auxiliaryNumber : Auxiliary → StateNumber
-auxiliaryNumber auxiliary.NotDefined = named 0
-auxiliaryNumber auxiliary.MainAudio = named 1
-auxiliaryNumber auxiliary.Coordination = named 2
-auxiliaryNumber auxiliary.UserDefined = named 3
-auxiliaryNumber (auxiliary.Reserved x) = reserved x
+abbrev pub auxiliary_number : Auxiliary → StateNumber
+auxiliary_number auxiliary.NotDefined = named 0
+auxiliary_number auxiliary.MainAudio = named 1
+auxiliary_number auxiliary.Coordination = named 2
+auxiliary_number auxiliary.UserDefined = named 3
+auxiliary_number (auxiliary.Reserved x) = reserved x
 
-abbrev pub wordLengthNumber : WordLength → StateNumber
-wordLengthNumber word.NotIndicated = named 0
-wordLengthNumber (word.Bits n) = named n
-wordLengthNumber (word.Reserved x) = reserved x
+abbrev pub word_length_number : WordLength → StateNumber
+word_length_number word.NotIndicated = named 0
+word_length_number (word.Bits n) = named n
+word_length_number (word.Reserved x) = reserved x
 
-abbrev pub alignmentNumber : Alignment → StateNumber
-alignmentNumber alignment.NotIndicated = named 0
-alignmentNumber alignment.Rp155 = named 1
-alignmentNumber alignment.R68 = named 2
-alignmentNumber (alignment.Reserved x) = reserved x
+abbrev pub alignment_number : Alignment → StateNumber
+alignment_number alignment.NotIndicated = named 0
+alignment_number alignment.Rp155 = named 1
+alignment_number alignment.R68 = named 2
+alignment_number (alignment.Reserved x) = reserved x
 
 -- ---- all of it
 
-unfoldable pub numbersBy : ℕ → Description → MeaningNumbers
-numbersBy purpose d =
+unfoldable pub numbers_by : ℕ → Description → MeaningNumbers
+numbers_by purpose d =
     record {
       usage = 1;
       audio = purpose;
-      emphasis = (emphasisNumber d.emphasis).state;
-      emphasis_bits = (emphasisNumber d.emphasis).bits;
-      lock = lockNumber d.lock;
-      rate = rateNumber d.rate;
-      mode = (modeNumber d.mode).state;
-      mode_bits = (modeNumber d.mode).bits;
-      user = (userNumber d.user).state;
-      user_bits = (userNumber d.user).bits;
-      auxiliary = (auxiliaryNumber d.auxiliary).state;
-      auxiliary_bits = (auxiliaryNumber d.auxiliary).bits;
-      word_length = (wordLengthNumber d.word_length).state;
-      word_length_bits = (wordLengthNumber d.word_length).bits;
-      alignment = (alignmentNumber d.alignment).state;
-      alignment_bits = (alignmentNumber d.alignment).bits;
+      emphasis = (emphasis_number d.emphasis).state;
+      emphasis_bits = (emphasis_number d.emphasis).bits;
+      lock = lock_number d.lock;
+      rate = rate_number d.rate;
+      mode = (mode_number d.mode).state;
+      mode_bits = (mode_number d.mode).bits;
+      user = (user_number d.user).state;
+      user_bits = (user_number d.user).bits;
+      auxiliary = (auxiliary_number d.auxiliary).state;
+      auxiliary_bits = (auxiliary_number d.auxiliary).bits;
+      word_length = (word_length_number d.word_length).state;
+      word_length_bits = (word_length_number d.word_length).bits;
+      alignment = (alignment_number d.alignment).state;
+      alignment_bits = (alignment_number d.alignment).bits;
     }
 
-unfoldable pub consumerNumbers : MeaningNumbers
-consumerNumbers =
+unfoldable pub consumer_numbers : MeaningNumbers
+consumer_numbers =
     record {
       usage = 0;
       audio = 0;
@@ -136,7 +136,7 @@ consumerNumbers =
     }
 
 -- consumer use is 0, and so is all the rest of it; professional use is 1; linear PCM is 0, another purpose 1
-unfoldable pub numbersOf : Use → MeaningNumbers
-numbersOf Consumer = consumerNumbers
-numbersOf (Professional (LinearPcm d)) = numbersBy 0 d
-numbersOf (Professional (OtherPurpose d)) = numbersBy 1 d
+unfoldable pub numbers_of : Use → MeaningNumbers
+numbers_of Consumer = consumer_numbers
+numbers_of (Professional (LinearPcm d)) = numbers_by 0 d
+numbers_of (Professional (OtherPurpose d)) = numbers_by 1 d

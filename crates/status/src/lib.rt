@@ -1,8 +1,8 @@
 // What bytes 0 to 2 of channel status mean (BS.647-3, part 3, 3.3.1 to 3.3.3). A reserved state is reported with its
 // bits, and never refused.
 ghost use Rattle.std.specs.Prelude.{◌≡◌};
-ghost use Rattle.status.specs.Meaning.{describedBy, meaningOf};
-ghost use Rattle.status.specs.Numbers.{numbersBy, consumerNumbers, numbersOf};
+ghost use Rattle.status.specs.Meaning.{described_by, meaning_of};
+ghost use Rattle.status.specs.Numbers.{numbers_by, consumer_numbers, numbers_of};
 
 mod numbers;
 mod tables;
@@ -147,7 +147,7 @@ pub struct MeaningNumbers {
 // ---- the three bytes
 
 fn described(byte0: u8, byte1: u8, byte2: u8) -> Description
-    ensures { result ≡ describedBy byte0 byte1 byte2 }
+    ensures { result ≡ described_by byte0 byte1 byte2 }
 {
     let auxiliary = tables::auxiliary_of(byte2 % 8);
     Description {
@@ -164,7 +164,7 @@ fn described(byte0: u8, byte1: u8, byte2: u8) -> Description
 
 // The meaning of bytes 0 to 2.
 pub fn meaning(byte0: u8, byte1: u8, byte2: u8) -> Use
-    ensures { result ≡ meaningOf byte0 byte1 byte2 }
+    ensures { result ≡ meaning_of byte0 byte1 byte2 }
 {
     if byte0 % 2 == 0 {
         return Use::Consumer;
@@ -180,7 +180,7 @@ pub fn meaning(byte0: u8, byte1: u8, byte2: u8) -> Use
 // ---- in numbers, for a caller that has no enums
 
 fn numbers_by(audio: u32, d: Description) -> MeaningNumbers
-    ensures { result ≡ numbersBy audio d }
+    ensures { result ≡ numbers_by audio d }
 {
     let emphasis = d.emphasis;
     let lock = d.lock;
@@ -219,7 +219,7 @@ fn numbers_by(audio: u32, d: Description) -> MeaningNumbers
 }
 
 fn consumer() -> MeaningNumbers
-    ensures { result ≡ consumerNumbers }
+    ensures { result ≡ consumer_numbers }
 {
     MeaningNumbers {
         usage: 0,
@@ -243,7 +243,7 @@ fn consumer() -> MeaningNumbers
 
 // The meaning of bytes 0 to 2 in numbers.
 pub fn meaning_numbers(byte0: u8, byte1: u8, byte2: u8) -> MeaningNumbers
-    ensures { result ≡ numbersOf (meaningOf byte0 byte1 byte2) }
+    ensures { result ≡ numbers_of (meaning_of byte0 byte1 byte2) }
 {
     match meaning(byte0, byte1, byte2) {
         Use::Consumer => consumer(),

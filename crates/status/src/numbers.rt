@@ -1,13 +1,13 @@
 // The states in numbers: those that a table names count from 0, in the order of its rows; a reserved one is 255, with
 // its bits.
 ghost use Rattle.std.specs.Prelude.{◌≡◌};
-ghost use Rattle.status.specs.Numbers.{emphasisNumber, lockNumber, rateNumber, modeNumber, userNumber, auxiliaryNumber, wordLengthNumber, alignmentNumber};
+ghost use Rattle.status.specs.Numbers.{emphasis_number, lock_number, rate_number, mode_number, user_number, auxiliary_number, word_length_number, alignment_number};
 
 use crate::{Alignment, Auxiliary, Emphasis, Lock, Mode, Rate, StateNumber, User, WordLength};
 
 pub fn emphasis_number(e: Emphasis) -> StateNumber
-    ensures state_value { result.state ≡ (emphasisNumber e).state }
-    ensures bits_value { result.bits ≡ (emphasisNumber e).bits }
+    ensures state_value { result.state ≡ (emphasis_number e).state }
+    ensures bits_value { result.bits ≡ (emphasis_number e).bits }
 {
     match e {
         Emphasis::NotIndicated => StateNumber { state: 0, bits: 0 },
@@ -22,7 +22,7 @@ pub fn emphasis_number(e: Emphasis) -> StateNumber
 }
 
 pub fn lock_number(l: Lock) -> u32
-    ensures { result ≡ lockNumber l }
+    ensures { result ≡ lock_number l }
 {
     match l {
         Lock::NotIndicated => 0,
@@ -31,7 +31,7 @@ pub fn lock_number(l: Lock) -> u32
 }
 
 pub fn rate_number(f: Rate) -> u32
-    ensures { result ≡ rateNumber f }
+    ensures { result ≡ rate_number f }
 {
     match f {
         Rate::NotIndicated => 0,
@@ -42,8 +42,8 @@ pub fn rate_number(f: Rate) -> u32
 }
 
 pub fn mode_number(m: Mode) -> StateNumber
-    ensures state_value { result.state ≡ (modeNumber m).state }
-    ensures bits_value { result.bits ≡ (modeNumber m).bits }
+    ensures state_value { result.state ≡ (mode_number m).state }
+    ensures bits_value { result.bits ≡ (mode_number m).bits }
 {
     match m {
         Mode::NotIndicated => StateNumber { state: 0, bits: 0 },
@@ -65,8 +65,8 @@ pub fn mode_number(m: Mode) -> StateNumber
 }
 
 pub fn user_number(u: User) -> StateNumber
-    ensures state_value { result.state ≡ (userNumber u).state }
-    ensures bits_value { result.bits ≡ (userNumber u).bits }
+    ensures state_value { result.state ≡ (user_number u).state }
+    ensures bits_value { result.bits ≡ (user_number u).bits }
 {
     match u {
         User::NotIndicated => StateNumber { state: 0, bits: 0 },
@@ -84,8 +84,8 @@ pub fn user_number(u: User) -> StateNumber
 }
 
 pub fn auxiliary_number(a: Auxiliary) -> StateNumber
-    ensures state_value { result.state ≡ (auxiliaryNumber a).state }
-    ensures bits_value { result.bits ≡ (auxiliaryNumber a).bits }
+    ensures state_value { result.state ≡ (auxiliary_number a).state }
+    ensures bits_value { result.bits ≡ (auxiliary_number a).bits }
 {
     match a {
         Auxiliary::NotDefined => StateNumber { state: 0, bits: 0 },
@@ -100,8 +100,8 @@ pub fn auxiliary_number(a: Auxiliary) -> StateNumber
 }
 
 pub fn word_length_number(l: WordLength) -> StateNumber
-    ensures state_value { result.state ≡ (wordLengthNumber l).state }
-    ensures bits_value { result.bits ≡ (wordLengthNumber l).bits }
+    ensures state_value { result.state ≡ (word_length_number l).state }
+    ensures bits_value { result.bits ≡ (word_length_number l).bits }
 {
     match l {
         WordLength::NotIndicated => StateNumber { state: 0, bits: 0 },
@@ -117,8 +117,8 @@ pub fn word_length_number(l: WordLength) -> StateNumber
 }
 
 pub fn alignment_number(a: Alignment) -> StateNumber
-    ensures state_value { result.state ≡ (alignmentNumber a).state }
-    ensures bits_value { result.bits ≡ (alignmentNumber a).bits }
+    ensures state_value { result.state ≡ (alignment_number a).state }
+    ensures bits_value { result.bits ≡ (alignment_number a).bits }
 {
     match a {
         Alignment::NotIndicated => StateNumber { state: 0, bits: 0 },

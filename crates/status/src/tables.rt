@@ -1,11 +1,11 @@
 // The tables of BS.647-3, part 3, 3.3.1 to 3.3.3. A state is written as there, its highest bit at the left.
 ghost use Rattle.std.specs.Prelude.{◌≡◌};
-ghost use Rattle.status.specs.Meaning.{emphasisOf, lockOf, rateOf, mode_of, userOf, auxiliaryOf, wordLengthUpTo24, wordLengthUpTo20, wordLengthOf, alignmentOf};
+ghost use Rattle.status.specs.Meaning.{emphasis_of, lock_of, rate_of, mode_of, user_of, auxiliary_of, word_length_up_to24, word_length_up_to20, word_length_of, alignment_of};
 
 use crate::{Alignment, Auxiliary, Emphasis, Lock, Mode, Rate, User, WordLength};
 
 pub fn emphasis_of(bits: u8) -> Emphasis
-    ensures { result ≡ emphasisOf bits }
+    ensures { result ≡ emphasis_of bits }
 {
     match bits {
         0b000 => Emphasis::NotIndicated,
@@ -17,7 +17,7 @@ pub fn emphasis_of(bits: u8) -> Emphasis
 }
 
 pub fn lock_of(bit: u8) -> Lock
-    ensures { result ≡ lockOf bit }
+    ensures { result ≡ lock_of bit }
 {
     match bit {
         0b0 => Lock::NotIndicated,
@@ -27,7 +27,7 @@ pub fn lock_of(bit: u8) -> Lock
 }
 
 pub fn rate_of(bits: u8) -> Rate
-    ensures { result ≡ rateOf bits }
+    ensures { result ≡ rate_of bits }
 {
     match bits {
         0b00 => Rate::NotIndicated,
@@ -58,7 +58,7 @@ pub fn mode_of(bits: u8) -> Mode
 }
 
 pub fn user_of(bits: u8) -> User
-    ensures { result ≡ userOf bits }
+    ensures { result ≡ user_of bits }
 {
     match bits {
         0b0000 => User::NotIndicated,
@@ -73,7 +73,7 @@ pub fn user_of(bits: u8) -> User
 }
 
 pub fn auxiliary_of(bits: u8) -> Auxiliary
-    ensures { result ≡ auxiliaryOf bits }
+    ensures { result ≡ auxiliary_of bits }
 {
     match bits {
         0b000 => Auxiliary::NotDefined,
@@ -85,7 +85,7 @@ pub fn auxiliary_of(bits: u8) -> Auxiliary
 }
 
 fn word_length_up_to_24(bits: u8) -> WordLength
-    ensures { result ≡ wordLengthUpTo24 bits }
+    ensures { result ≡ word_length_up_to24 bits }
 {
     match bits {
         0b000 => WordLength::NotIndicated,
@@ -99,7 +99,7 @@ fn word_length_up_to_24(bits: u8) -> WordLength
 }
 
 fn word_length_up_to_20(bits: u8) -> WordLength
-    ensures { result ≡ wordLengthUpTo20 bits }
+    ensures { result ≡ word_length_up_to20 bits }
 {
     match bits {
         0b000 => WordLength::NotIndicated,
@@ -113,7 +113,7 @@ fn word_length_up_to_20(bits: u8) -> WordLength
 }
 
 pub fn word_length_of(auxiliary: Auxiliary, bits: u8) -> WordLength
-    ensures { result ≡ wordLengthOf auxiliary bits }
+    ensures { result ≡ word_length_of auxiliary bits }
 {
     match auxiliary {
         Auxiliary::MainAudio => word_length_up_to_24(bits),
@@ -125,7 +125,7 @@ pub fn word_length_of(auxiliary: Auxiliary, bits: u8) -> WordLength
 }
 
 pub fn alignment_of(bits: u8) -> Alignment
-    ensures { result ≡ alignmentOf bits }
+    ensures { result ≡ alignment_of bits }
 {
     match bits {
         0b00 => Alignment::NotIndicated,

@@ -14,10 +14,10 @@ use Rattle.answer.specs.Answer.{Answer.accepted}
 use Rattle.answer.specs.Demand.{AllMet, ◌&◌}
 use Rattle.answer.proofs.Chains.{met, passing}
 use Rattle.subframe.specs.Signed.{in_range}
-use Rattle.block.specs.Side.{sideLength}
+use Rattle.block.specs.Side.{side_length}
 use Rattle.block.specs.Check.{outside}
 use Rattle.block.proofs.CheckLaws.{outside-range}
-use Rattle.talkback.specs.Talkback.{auxiliary, withVoice, undeclared, unfit, voiceOutside, useDemands, voiceJoinDemands, separateDemands, voiceJoinAnswer, separateAnswer}
+use Rattle.talkback.specs.Talkback.{auxiliary, with_voice, undeclared, unfit, voice_outside, use_demands, voice_join_demands, separate_demands, voice_join_answer, separate_answer}
 use Rattle.talkback.specs.Inner.{unfitting, Programs, AllIn}
 
 -- ---- one search for each kind
@@ -55,8 +55,8 @@ pub outside-is : (samples : List ℤ) (i : ℕ) → outside samples i ≡ unfitt
 unfolding unfitting
 outside-is samples i = outside-range samples i ∙ any-low (2 ^ 23) (get_or samples i (pos 0))
 
-pub voice-is : (voice : List ℤ) (i : ℕ) → voiceOutside voice (384 + i) ≡ unfitting (2 ^ 11) (2 ^ 4) voice i
-unfolding voiceOutside unfitting
+pub voice-is : (voice : List ℤ) (i : ℕ) → voice_outside voice (384 + i) ≡ unfitting (2 ^ 11) (2 ^ 4) voice i
+unfolding voice_outside unfitting
 voice-is voice i =
     let e : 384 + i - 384 ≡ i = omega arith in
     ap (λ (k : ℕ). not (in_range 12 (get_or voice k (pos 0)))) e ∙ any-low (2 ^ 11) (get_or voice i (pos 0))
@@ -74,8 +74,8 @@ pub fit-samples : (samples : List ℤ) → ((i : ℕ) → 0 ≤ i → i < 0 + 38
 fit-samples samples all i h =
     not-false (in_range 24 (get_or samples i (pos 0))) (sym (outside-range samples i) ∙ all i (omega arith) (omega arith))
 
-pub fit-voice : (voice : List ℤ) → ((i : ℕ) → 384 ≤ i → i < 384 + 128 → voiceOutside voice i ≡ false) → AllIn 12 128 voice
-unfolding voiceOutside
+pub fit-voice : (voice : List ℤ) → ((i : ℕ) → 384 ≤ i → i < 384 + 128 → voice_outside voice i ≡ false) → AllIn 12 128 voice
+unfolding voice_outside
 fit-voice voice all i h =
     let e : 384 + i - 384 ≡ i = omega arith in
     not-false (in_range 12 (get_or voice i (pos 0))) (ap (λ (k : ℕ). not (in_range 12 (get_or voice k (pos 0)))) (sym e) ∙ all (384 + i) (omega arith) (omega arith))
@@ -85,23 +85,23 @@ fit-voice voice all i h =
 pub record Joins (program voice : List ℤ) (side : List ℕ) (room : ℕ) (samples : List ℤ) : Type 0 where
   pub program-long : length program ≡ 384
   pub voice-long : length voice ≡ 128
-  pub side-long : length side ≡ sideLength
+  pub side-long : length side ≡ side_length
   pub room-long : room ≡ 384
   pub declared : (channel : ℕ) → 0 ≤ channel → channel < 0 + 2 → undeclared side channel ≡ false
   pub programs : Programs program
   pub voices : AllIn 12 128 voice
-  pub is : withVoice program voice ≡ samples
+  pub is : with_voice program voice ≡ samples
 
 pub joins : (program voice : List ℤ) (side : List ℕ) (room : ℕ) (samples : List ℤ)
-    → voiceJoinAnswer program voice side room ≡ accepted samples → Joins program voice side room samples
-unfolding voiceJoinAnswer
+    → voice_join_answer program voice side room ≡ accepted samples → Joins program voice side room samples
+unfolding voice_join_answer
 joins program voice side room samples e =
-    let m = met (withVoice program voice) (voiceJoinDemands program voice side room) e in
+    let m = met (with_voice program voice) (voice_join_demands program voice side room) e in
     let d = m.0 in
     record {
       program-long = eqb-true _ 384 d.0;
       voice-long = eqb-true _ 128 d.1.0;
-      side-long = eqb-true _ sideLength d.1.1.0;
+      side-long = eqb-true _ side_length d.1.1.0;
       room-long = eqb-true _ 384 d.1.1.1.0;
       declared = d.1.1.1.1.0;
       programs = fit-programs program d.1.1.1.1.1.0;
@@ -112,21 +112,21 @@ joins program voice side room samples e =
 pub record Separates (samples : List ℤ) (side : List ℕ) (program voice : ℕ) : Type 0 where
   pub program-room : program ≡ 384
   pub voice-room : voice ≡ 128
-  pub side-long : length side ≡ sideLength
+  pub side-long : length side ≡ side_length
   pub samples-long : length samples ≡ 384
   pub declared : (channel : ℕ) → 0 ≤ channel → channel < 0 + 2 → undeclared side channel ≡ false
   pub ranges : AllIn 24 384 samples
 
 module _ (samples : List ℤ) (side : List ℕ) (program voice : ℕ) where
-  pub separates : (s : List ℤ) → separateAnswer samples side program voice ≡ accepted s → Separates samples side program voice × (samples ≡ s)
-  unfolding separateAnswer
+  pub separates : (s : List ℤ) → separate_answer samples side program voice ≡ accepted s → Separates samples side program voice × (samples ≡ s)
+  unfolding separate_answer
   separates s e =
-      let m = met samples (separateDemands samples side program voice) e in
+      let m = met samples (separate_demands samples side program voice) e in
       let d = m.0 in (
         record {
           program-room = eqb-true _ 384 d.0;
           voice-room = eqb-true _ 128 d.1.0;
-          side-long = eqb-true _ sideLength d.1.1.0;
+          side-long = eqb-true _ side_length d.1.1.0;
           samples-long = eqb-true _ 384 d.1.1.1.0;
           declared = d.1.1.1.1.0;
           ranges = fit-samples samples d.1.1.1.1.1.0;
@@ -134,21 +134,21 @@ module _ (samples : List ℤ) (side : List ℕ) (program voice : ℕ) where
         m.1,
       )
 
-  pub separating : Separates samples side program voice → separateAnswer samples side program voice ≡ accepted samples
-  unfolding separateAnswer
+  pub separating : Separates samples side program voice → separate_answer samples side program voice ≡ accepted samples
+  unfolding separate_answer
   separating s =
-      passing (accepted samples) (separateDemands samples side program voice)
-      (eq-eqb _ 384 s.program-room & eq-eqb _ 128 s.voice-room & eq-eqb _ sideLength s.side-long & eq-eqb _ 384 s.samples-long
+      passing (accepted samples) (separate_demands samples side program voice)
+      (eq-eqb _ 384 s.program-room & eq-eqb _ 128 s.voice-room & eq-eqb _ side_length s.side-long & eq-eqb _ 384 s.samples-long
       & s.declared & (λ i l h. outside-range samples i ∙ ap not (s.ranges i (omega arith))) & tt)
 
 module _ (program voice : List ℤ) (side : List ℕ) (room : ℕ) where
-  pub joining : length program ≡ 384 → length voice ≡ 128 → length side ≡ sideLength → room ≡ 384
+  pub joining : length program ≡ 384 → length voice ≡ 128 → length side ≡ side_length → room ≡ 384
       → ((channel : ℕ) → 0 ≤ channel → channel < 0 + 2 → undeclared side channel ≡ false) → Programs program → AllIn 12 128 voice
-      → voiceJoinAnswer program voice side room ≡ accepted (withVoice program voice)
-  unfolding voiceJoinAnswer unfit voiceOutside
+      → voice_join_answer program voice side room ≡ accepted (with_voice program voice)
+  unfolding voice_join_answer unfit voice_outside
   joining np nv nt nr declared programs voices =
-      passing (accepted (withVoice program voice)) (voiceJoinDemands program voice side room)
-      (eq-eqb _ 384 np & eq-eqb _ 128 nv & eq-eqb _ sideLength nt & eq-eqb _ 384 nr & declared
+      passing (accepted (with_voice program voice)) (voice_join_demands program voice side room)
+      (eq-eqb _ 384 np & eq-eqb _ 128 nv & eq-eqb _ side_length nt & eq-eqb _ 384 nr & declared
       & (λ i l h. let f = programs i (omega arith) in
       ap₂ (λ (a b : Bool). a || not b) (outside-range program i ∙ ap not f.0) (eq-eqb (auxiliary (get_or program i (pos 0))) 0 f.1))
       & (λ i l h. ap not (voices (i - 384) (omega arith))) & tt)

@@ -12,7 +12,7 @@ use mir.Syntax.{w32, w64}
 use mir.Val.{SFits, Fits, to_z, of_z}
 use mir.Facts.{to_z-of_z, to_z_pos}
 use Rattle.subframe.specs.Signed.{in_range, code_of, signed_of}
-use Rattle.talkback.specs.Talkback.{auxiliary, main, sampleWith}
+use Rattle.talkback.specs.Talkback.{auxiliary, main, sample_with}
 
 -- ---- 32 bits of a sample
 
@@ -93,10 +93,10 @@ module _ (z : ℤ) (h : in_range 24 z ≡ true) (free : auxiliary z ≡ 0) (a : 
       go (pos n) h free = let l : n < 8388608 = ltb-true n 8388608 h in omega arith
       go (negsuc n) h free = let l : n < 8388608 = ltb-true n 8388608 h in omega arith
 
-  pub added-32 : signed_of 32 (code_of 32 z + a) ≡ sampleWith (main z) a
+  pub added-32 : signed_of 32 (code_of 32 z + a) ≡ sample_with (main z) a
   added-32 = go z h free
     where
-      go : (z : ℤ) → in_range 24 z ≡ true → auxiliary z ≡ 0 → signed_of 32 (code_of 32 z + a) ≡ sampleWith (main z) a
+      go : (z : ℤ) → in_range 24 z ≡ true → auxiliary z ≡ 0 → signed_of 32 (code_of 32 z + a) ≡ sample_with (main z) a
       go (pos n) h free =
           let l : n < 8388608 = ltb-true n 8388608 h in
           rw (lt-ltb (n + a) (2 ^ 31) (omega arith), lt-ltb (n / 16 * 16 + a) 8388608 (omega arith)) (ap pos (omega arith))

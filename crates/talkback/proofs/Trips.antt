@@ -13,30 +13,30 @@ use Rattle.subframe.specs.Signed.{in_range, code_of}
 use Rattle.subframe.specs.Body.{body_of}
 use Rattle.subframe.proofs.SignedLaws.{code_lt, moved_up}
 use Rattle.subframe.proofs.BodyLaws.{body-sample}
-use Rattle.block.specs.Block.{sideAt, subframeBody}
+use Rattle.block.specs.Block.{side_at, subframe_body}
 use Rattle.block.proofs.BlockLaws.{body-in, side-digit}
-use Rattle.talkback.specs.Talkback.{auxiliary, main, withVoice, program_of, voiceOf, voiceJoinAnswer, separateAnswer}
+use Rattle.talkback.specs.Talkback.{auxiliary, main, with_voice, program_of, voice_of, voice_join_answer, separate_answer}
 use Rattle.talkback.proofs.Blocks.{length-with, length-program, length-voice, joined_in, joined-main, program-back, voice-back, separated-programs, separated-voice, joined_back}
 use Rattle.talkback.proofs.Demands.{Joins, joins, Separates, separates, separating, joining}
 
 -- ---- what joining accepts
 
 module _ (program voice : List ℤ) (side : List ℕ) (old samples : List ℤ)
-    (e : voiceJoinAnswer program voice side (length old) ≡ accepted samples) where
+    (e : voice_join_answer program voice side (length old) ≡ accepted samples) where
   -- what the buffer then holds
   abbrev pub joined : List ℤ
-  joined = rewritten (voiceJoinAnswer program voice side (length old)) old
+  joined = rewritten (voice_join_answer program voice side (length old)) old
 
   j : Joins program voice side (length old) samples
   j = joins program voice side (length old) samples e
 
-  is-with : joined ≡ withVoice program voice
-  is-with = rw (e, ← j.is) (whole (λ new. new) (withVoice program voice) old (length-with program voice ∙ sym j.room-long))
+  is-with : joined ≡ with_voice program voice
+  is-with = rw (e, ← j.is) (whole (λ new. new) (with_voice program voice) old (length-with program voice ∙ sym j.room-long))
 
-  separated : (p v : ℕ) → p ≡ 384 → v ≡ 128 → separateAnswer joined side p v ≡ accepted (withVoice program voice)
+  separated : (p v : ℕ) → p ≡ 384 → v ≡ 128 → separate_answer joined side p v ≡ accepted (with_voice program voice)
   separated p v np nv =
-      ap (λ (s : List ℤ). separateAnswer s side p v) is-with
-      ∙ separating (withVoice program voice) side p v
+      ap (λ (s : List ℤ). separate_answer s side p v) is-with
+      ∙ separating (with_voice program voice) side p v
       (record {
         program-room = np;
         voice-room = nv;
@@ -48,55 +48,55 @@ module _ (program voice : List ℤ) (side : List ℕ) (old samples : List ℤ)
 
   -- separating it gives back program and voice
   pub joined-separates : (p v : List ℤ) → length p ≡ 384 → length v ≡ 128
-      → (verdict (separateAnswer joined side (length p) (length v)) ≡ accepted tt)
-      × (after program_of (separateAnswer joined side (length p) (length v)) p ≡ program)
-      × (after voiceOf (separateAnswer joined side (length p) (length v)) v ≡ voice)
+      → (verdict (separate_answer joined side (length p) (length v)) ≡ accepted tt)
+      × (after program_of (separate_answer joined side (length p) (length v)) p ≡ program)
+      × (after voice_of (separate_answer joined side (length p) (length v)) v ≡ voice)
   joined-separates p v np nv =
-      let s = withVoice program voice in
+      let s = with_voice program voice in
       rw (separated (length p) (length v) np nv) (
         refl,
         whole program_of s p (length-program s ∙ sym np) ∙ program-back program voice j.programs j.voices j.program-long,
-        whole voiceOf s v (length-voice s ∙ sym nv) ∙ voice-back program voice j.programs j.voices j.voice-long,
+        whole voice_of s v (length-voice s ∙ sym nv) ∙ voice-back program voice j.programs j.voices j.voice-long,
       )
 
   -- slots 8 to 27 of every body are those of the program's body
-  pub slots_kept : (i : ℕ) → i < 384 → subframeBody joined side i / 2 ^ 8 % 2 ^ 20 ≡ subframeBody program side i / 2 ^ 8 % 2 ^ 20
+  pub slots_kept : (i : ℕ) → i < 384 → subframe_body joined side i / 2 ^ 8 % 2 ^ 20 ≡ subframe_body program side i / 2 ^ 8 % 2 ^ 20
   slots_kept i h =
-      ap (λ (s : List ℤ). subframeBody s side i / 2 ^ 8 % 2 ^ 20) is-with
-      ∙ slots (withVoice program voice) (joined_in program voice j.programs j.voices i h)
+      ap (λ (s : List ℤ). subframe_body s side i / 2 ^ 8 % 2 ^ 20) is-with
+      ∙ slots (with_voice program voice) (joined_in program voice j.programs j.voices i h)
       ∙ joined-main program voice j.programs j.voices i h
       ∙ sym (slots program (j.programs i h).0)
     where
-      slots : (s : List ℤ) → in_range 24 (get_or s i (pos 0)) ≡ true → subframeBody s side i / 2 ^ 8 % 2 ^ 20 ≡ main (get_or s i (pos 0))
+      slots : (s : List ℤ) → in_range 24 (get_or s i (pos 0)) ≡ true → subframe_body s side i / 2 ^ 8 % 2 ^ 20 ≡ main (get_or s i (pos 0))
       slots s r =
           let z = code_of 24 (get_or s i (pos 0)) in
-          let b = body_of z (sideAt side 0 i) (sideAt side 1 i) (sideAt side 2 i) in
+          let b = body_of z (side_at side 0 i) (side_at side 1 i) (side_at side 2 i) in
           let l : z < 2 ^ 24 = code_lt 24 (omega arith) (get_or s i (pos 0)) r in
           let q : b / 2 ^ 4 % 2 ^ 24 ≡ z =
-          body-sample z (sideAt side 0 i) (sideAt side 1 i) (sideAt side 2 i) l (side-digit side 0 i) (side-digit side 1 i) (side-digit side 2 i) in
+          body-sample z (side_at side 0 i) (side_at side 1 i) (side_at side 2 i) l (side-digit side 0 i) (side-digit side 1 i) (side-digit side 2 i) in
           ap (λ (x : ℕ). x / 2 ^ 8 % 2 ^ 20) (body-in s side i r) ∙ omega arith
 
 -- ---- what separating accepts
 
 module _ (samples : List ℤ) (side : List ℕ) (p v s : List ℤ)
-    (e : separateAnswer samples side (length p) (length v) ≡ accepted s) where
+    (e : separate_answer samples side (length p) (length v) ≡ accepted s) where
   -- what the buffers then hold
   abbrev pub program-separated : List ℤ
-  program-separated = after program_of (separateAnswer samples side (length p) (length v)) p
+  program-separated = after program_of (separate_answer samples side (length p) (length v)) p
 
   abbrev pub voice-separated : List ℤ
-  voice-separated = after voiceOf (separateAnswer samples side (length p) (length v)) v
+  voice-separated = after voice_of (separate_answer samples side (length p) (length v)) v
 
   -- joining them gives back the samples
-  pub separated-joins : voiceJoinAnswer program-separated voice-separated side 384 ≡ accepted samples
+  pub separated-joins : voice_join_answer program-separated voice-separated side 384 ≡ accepted samples
   separated-joins =
       let f = separates samples side (length p) (length v) s e in
       let d = f.0 in
-      let a : separateAnswer samples side (length p) (length v) ≡ accepted samples = e ∙ ap accepted (sym f.1) in
+      let a : separate_answer samples side (length p) (length v) ≡ accepted samples = e ∙ ap accepted (sym f.1) in
       let ep : program-separated ≡ program_of samples = rw a (whole program_of samples p (length-program samples ∙ sym d.program-room)) in
-      let ev : voice-separated ≡ voiceOf samples = rw a (whole voiceOf samples v (length-voice samples ∙ sym d.voice-room)) in
-      ap₂ (λ (x y : List ℤ). voiceJoinAnswer x y side 384) ep ev
-      ∙ joining (program_of samples) (voiceOf samples) side 384 (length-program samples) (length-voice samples) d.side-long refl d.declared
+      let ev : voice-separated ≡ voice_of samples = rw a (whole voice_of samples v (length-voice samples ∙ sym d.voice-room)) in
+      ap₂ (λ (x y : List ℤ). voice_join_answer x y side 384) ep ev
+      ∙ joining (program_of samples) (voice_of samples) side 384 (length-program samples) (length-voice samples) d.side-long refl d.declared
       (separated-programs samples d.ranges) (separated-voice samples d.ranges)
       ∙ ap accepted (joined_back samples d.ranges d.samples-long)
 

@@ -2,7 +2,7 @@
 use Rattle.std.specs.Prelude.{◌≡◌, ℕ, ◌+◌, ◌*◌, ◌/◌, ◌%◌, ◌^◌, ◌<◌, ◌≤◌, Bool, true, not, ◌&&◌, List, ltb, ℤ, pos, get_or, set}
 use Rattle.std.specs.Int.Signed.{mag}
 use Rattle.subframe.specs.Signed.{in_range}
-use Rattle.talkback.specs.Talkback.{auxiliary, main, sampleWith}
+use Rattle.talkback.specs.Talkback.{auxiliary, main, sample_with}
 
 -- a sample whose range ends at `half`, with less than `free` in slots 4 to 7
 abbrev pub fitting : ℕ → ℕ → ℤ → Bool
@@ -29,12 +29,12 @@ abbrev pub AllIn : ℕ → ℕ → List ℤ → Type 0
 AllIn w n samples = (i : ℕ) → i < n → in_range w (get_or samples i (pos 0)) ≡ true
 
 -- the samples of A and B of a frame set, from subframe i on, to the program with these parts
-unfoldable pub frameSet : List ℤ → ℕ → ℕ → ℕ → List ℤ → List ℤ
-frameSet program a b i samples =
-    set (set samples i (sampleWith (main (get_or program i (pos 0))) a)) (i + 1) (sampleWith (main (get_or program (i + 1) (pos 0))) b)
+unfoldable pub frame_set : List ℤ → ℕ → ℕ → ℕ → List ℤ → List ℤ
+frame_set program a b i samples =
+    set (set samples i (sample_with (main (get_or program i (pos 0))) a)) (i + 1) (sample_with (main (get_or program (i + 1) (pos 0))) b)
 
 -- the same of the three frames from subframe i on that have the 12 bits a and b
-unfoldable pub threeSet : List ℤ → ℕ → ℕ → ℕ → List ℤ → List ℤ
-threeSet program a b i samples =
-    frameSet program (a / 2 ^ 8 % 2 ^ 4) (b / 2 ^ 8 % 2 ^ 4) (i + 4)
-    (frameSet program (a / 2 ^ 4 % 2 ^ 4) (b / 2 ^ 4 % 2 ^ 4) (i + 2) (frameSet program (a % 2 ^ 4) (b % 2 ^ 4) i samples))
+unfoldable pub three_set : List ℤ → ℕ → ℕ → ℕ → List ℤ → List ℤ
+three_set program a b i samples =
+    frame_set program (a / 2 ^ 8 % 2 ^ 4) (b / 2 ^ 8 % 2 ^ 4) (i + 4)
+    (frame_set program (a / 2 ^ 4 % 2 ^ 4) (b / 2 ^ 4 % 2 ^ 4) (i + 2) (frame_set program (a % 2 ^ 4) (b % 2 ^ 4) i samples))

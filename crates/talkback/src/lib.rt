@@ -5,11 +5,11 @@ ghost use Rattle.std.specs.Int.Signed.{mag};
 ghost use Rattle.bits.specs.Pick.{first};
 ghost use Rattle.answer.specs.Answer.{Answer.accepted, verdict, after, rewritten};
 ghost use Rattle.answer.specs.Demand.{provided};
-ghost use Rattle.answer.specs.Said.{verdictSaid};
+ghost use Rattle.answer.specs.Said.{verdict_said};
 ghost use Rattle.subframe.specs.Signed.{in_range, code_of, signed_of};
-ghost use Rattle.block.specs.Side.{sideLength};
-ghost use Rattle.talkback.specs.Talkback.{auxiliary, main, sampleWith, voiceWith, subframeWith, withVoice, program_of, voiceOf, undeclared, useDemands, voiceJoinAnswer, separateAnswer};
-ghost use Rattle.talkback.specs.Inner.{fitting, unfitting, Raises, Unites, Programs, AllIn, frameSet, threeSet};
+ghost use Rattle.block.specs.Side.{side_length};
+ghost use Rattle.talkback.specs.Talkback.{auxiliary, main, sample_with, voice_with, subframe_with, with_voice, program_of, voice_of, undeclared, use_demands, voice_join_answer, separate_answer};
+ghost use Rattle.talkback.specs.Inner.{fitting, unfitting, Raises, Unites, Programs, AllIn, frame_set, three_set};
 
 use answer::Verdict;
 use block::{C, COLUMN, COLUMNS, SIDE};
@@ -63,7 +63,7 @@ fn is_fitting(sample: i32, half: u32, free: u32) -> bool
 // A sample without what is in slots 4 to 7.
 fn cleared(sample: i32) -> i32
     requires { in_range 24 sample ≡ true }
-    ensures { result ≡ sampleWith (main sample) 0 }
+    ensures { result ≡ sample_with (main sample) 0 }
 {
     sample - (code(sample) % STATES) as i32
 }
@@ -132,7 +132,7 @@ fn first_unfitting(samples: &[i32], half: u32, free: u32) -> usize
 
 // Whether byte 2 bits 2, 1, 0 of a channel's status are not 0, 1, 0.
 fn is_undeclared(side: &[u8], channel: usize) -> bool
-    requires { (length side.now ≡ sideLength) × (channel < 2) }
+    requires { (length side.now ≡ side_length) × (channel < 2) }
     ensures { result ≡ undeclared side.now channel }
 {
     side[COLUMN * (COLUMNS * channel + C) + 2] % 8 != 2
@@ -140,7 +140,7 @@ fn is_undeclared(side: &[u8], channel: usize) -> bool
 
 // Refusals 1 and 19.
 fn check_use(program: usize, voice: usize, side: &[u8], samples: usize) -> Verdict
-    ensures { verdictSaid result ≡ provided (useDemands program voice side.now samples) (accepted tt) }
+    ensures { verdict_said result ≡ provided (use_demands program voice side.now samples) (accepted tt) }
 {
     if program != 384 {
         return Verdict::Refused {
@@ -221,7 +221,7 @@ fn low_fours(pair: u64) -> u64
 // A frame, from subframe i on: the program samples of A and B with two parts, side by side, in slots 4 to 7.
 fn join_frame(program: &[i32], parts: u64, i: usize, samples: &mut [i32])
     requires { (Programs program.now) × (length program.now ≡ 384) × (length samples.old ≡ 384) × (parts % 2 ^ 32 < 2 ^ 4) × (parts / 2 ^ 32 < 2 ^ 4) × (i + 1 < 384) }
-    ensures { samples.new ≡ frameSet program.now (parts % 2 ^ 32) (parts / 2 ^ 32) i samples.old }
+    ensures { samples.new ≡ frame_set program.now (parts % 2 ^ 32) (parts / 2 ^ 32) i samples.old }
 {
     let a = program[i];
     let b = program[i + 1];
@@ -235,7 +235,7 @@ fn join_frame(program: &[i32], parts: u64, i: usize, samples: &mut [i32])
 // Three frames, from subframe i on, with the voice samples for A and for B side by side, the lowest four bits in the first.
 fn join_three(program: &[i32], voices: u64, i: usize, samples: &mut [i32])
     requires { (Programs program.now) × (length program.now ≡ 384) × (length samples.old ≡ 384) × (i + 5 < 384) }
-    ensures { samples.new ≡ threeSet program.now (voices % 2 ^ 32) (voices / 2 ^ 32) i samples.old }
+    ensures { samples.new ≡ three_set program.now (voices % 2 ^ 32) (voices / 2 ^ 32) i samples.old }
 {
     join_frame(program, low_fours(voices), i, samples);
     join_frame(program, low_fours(voices / 16), i + 2, samples);
@@ -244,7 +244,7 @@ fn join_three(program: &[i32], voices: u64, i: usize, samples: &mut [i32])
 
 fn join_block(program: &[i32], voice: &[i32], samples: &mut [i32])
     requires { (Programs program.now) × (AllIn 12 128 voice.now) × (length program.now ≡ 384) × (length voice.now ≡ 128) × (length samples.old ≡ 384) }
-    ensures { samples.new ≡ withVoice program.now voice.now }
+    ensures { samples.new ≡ with_voice program.now voice.now }
 {
     let mut k: usize = 0;
     while k < 64 {
@@ -257,8 +257,8 @@ fn join_block(program: &[i32], voice: &[i32], samples: &mut [i32])
 
 // Joins program and voice in a block whose status declares it. A refusal leaves the samples as they were.
 pub fn join(program: &[i32], voice: &[i32], side: &[u8], samples: &mut [i32]) -> Verdict
-    ensures result_value { verdictSaid result ≡ verdict (voiceJoinAnswer program.now voice.now side.now (length samples.old)) }
-    ensures samples_after { samples.new ≡ rewritten (voiceJoinAnswer program.now voice.now side.now (length samples.old)) samples.old }
+    ensures result_value { verdict_said result ≡ verdict (voice_join_answer program.now voice.now side.now (length samples.old)) }
+    ensures samples_after { samples.new ≡ rewritten (voice_join_answer program.now voice.now side.now (length samples.old)) samples.old }
 {
     let found = check_use(program.len(), voice.len(), side, samples.len());
     if let Verdict::Refused { number, place } = found {
@@ -300,7 +300,7 @@ fn separate_program(samples: &[i32], program: &mut [i32])
 // The voice sample in three frames of a channel, from subframe i on.
 fn voice_at(samples: &[i32], i: usize) -> i32
     requires { (AllIn 24 384 samples.now) × (length samples.now ≡ 384) × (i + 4 < 384) }
-    ensures { result ≡ voiceWith (λ part. auxiliary (get_or samples.now (i + 2 * part) (pos 0))) }
+    ensures { result ≡ voice_with (λ part. auxiliary (get_or samples.now (i + 2 * part) (pos 0))) }
 {
     let a = code(samples[i]) % STATES;
     let b = code(samples[i + 2]) % STATES;
@@ -311,7 +311,7 @@ fn voice_at(samples: &[i32], i: usize) -> i32
 // The voice samples of a block.
 fn separate_voice(samples: &[i32], voice: &mut [i32])
     requires { (AllIn 24 384 samples.now) × (length samples.now ≡ 384) × (length voice.old ≡ 128) }
-    ensures { voice.new ≡ voiceOf samples.now }
+    ensures { voice.new ≡ voice_of samples.now }
 {
     let mut k: usize = 0;
     while k < 128 {
@@ -323,9 +323,9 @@ fn separate_voice(samples: &[i32], voice: &mut [i32])
 
 // Separates a block whose status declares it into program and voice. A refusal leaves both buffers as they were.
 pub fn separate(samples: &[i32], side: &[u8], program: &mut [i32], voice: &mut [i32]) -> Verdict
-    ensures result_value { verdictSaid result ≡ verdict (separateAnswer samples.now side.now (length program.old) (length voice.old)) }
-    ensures program_after { program.new ≡ after program_of (separateAnswer samples.now side.now (length program.old) (length voice.old)) program.old }
-    ensures voice_after { voice.new ≡ after voiceOf (separateAnswer samples.now side.now (length program.old) (length voice.old)) voice.old }
+    ensures result_value { verdict_said result ≡ verdict (separate_answer samples.now side.now (length program.old) (length voice.old)) }
+    ensures program_after { program.new ≡ after program_of (separate_answer samples.now side.now (length program.old) (length voice.old)) program.old }
+    ensures voice_after { voice.new ≡ after voice_of (separate_answer samples.now side.now (length program.old) (length voice.old)) voice.old }
 {
     let found = check_use(program.len(), voice.len(), side, samples.len());
     if let Verdict::Refused { number, place } = found {

@@ -9,13 +9,13 @@ use Rattle.bits.proofs.Filling.{over, over-all}
 use Rattle.answer.specs.Demand.{◌&◌}
 use Rattle.answer.specs.Demand.Stops.{fails, later}
 use Rattle.answer.proofs.Residues.{shows-refusal, shows-acceptance}
-use Rattle.aes3_hunt.specs.Align.{blockFrom, aligned}
+use Rattle.aes3_hunt.specs.Align.{block_from, aligned}
 use Rattle.aes3_hunt.proofs.AlignLaws.{length_from, octet-fits, octet-more}
 use Rattle.aes3_hunt.proofs.align.Statement.{statement}
 use Rattle.aes3_hunt.proofs.align.Tie as tie
 
 abbrev invariant-loop : tie.invariant-loop
-invariant-loop line position block₀ from j₀ block j = (j ≤ 3072) × (length block ≡ 3072) × (block ≡ over j (blockFrom line position) block₀)
+invariant-loop line position block₀ from j₀ block j = (j ≤ 3072) × (length block ≡ 3072) × (block ≡ over j (block_from line position) block₀)
 
 abbrev decreases-loop : tie.decreases-loop
 decreases-loop line position block₀ from j₀ block j = 3072 - j
@@ -88,7 +88,7 @@ returns-4 c =
     let n = length_from a.line.now a.position in
     let room = s.if1.false in
     shows-acceptance _ _ _ _ _ (eq-eqb _ 3072 room & le-leb _ 8192 c.before.before.before.if2.false & le-leb _ _ c.before.before.if3.false & tt) (n ∙ sym room)
-    (l.invariant.2 ∙ over-all l.j (blockFrom a.line.now a.position) a.block.now (omega (arith, n)) (omega arith))
+    (l.invariant.2 ∙ over-all l.j (block_from a.line.now a.position) a.block.now (omega (arith, n)) (omega arith))
 
 pub align-spec : {M : Type 1} → statement M
 align-spec =

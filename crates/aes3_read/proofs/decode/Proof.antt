@@ -9,17 +9,17 @@ use lib.ListN.{length, take, drop, get_or, length-set}
 use Rattle.bits.specs.Row.{odd, big}
 use Rattle.bits.specs.Pack.{symbols}
 use Rattle.answer.specs.Answer.{Answer, mapped, verdict}
-use Rattle.answer.specs.Said.{numberSaid}
+use Rattle.answer.specs.Said.{number_said}
 use Rattle.line.proofs.Words.{word-whole}
-use Rattle.aes3_line.specs.Subframe.{subframeRead}
-use Rattle.aes3_line.specs.Line.{bodiesFrom, bodiesOn}
+use Rattle.aes3_line.specs.Subframe.{subframe_read}
+use Rattle.aes3_line.specs.Line.{bodies_from, bodies_on}
 use Rattle.aes3_line.proofs.Turns.{level-start, front, read-start, length-lent, lent-symbols, read-turn, read-stop, read_done}
 use Rattle.aes3_read.proofs.decode.Statement.{statement}
 use Rattle.aes3_read.proofs.decode.Tie as tie
 
 abbrev invariant-loop : tie.invariant-loop
 invariant-loop table line bodies₀ start before₀ i₀ bodies before i =
-    (i ≤ 384) × (length bodies ≡ 384) × (front (take i bodies) (bodiesFrom (384 - i) i (odd before) (drop (i * 8) line)) ≡ bodiesOn line)
+    (i ≤ 384) × (length bodies ≡ 384) × (front (take i bodies) (bodies_from (384 - i) i (odd before) (drop (i * 8) line)) ≡ bodies_on line)
 
 abbrev decreases-loop : tie.decreases-loop
 decreases-loop table line bodies₀ start before₀ i₀ bodies before i = 384 - i
@@ -94,20 +94,20 @@ module _ (c : tie.After-read-subframe invariant-loop decreases-loop) where
   word-is : i < 384 → length line ≡ 3072 → c.before.word.result ≡ big (symbols part)
   word-is h n = c.before.word.ensures ∙ word-whole part (length-lent line i at.loop.before h n)
 
-  read_is : i < 384 → length line ≡ 3072 → numberSaid c.read-subframe.result ≡ subframeRead i (odd at.loop.before) (symbols part)
+  read_is : i < 384 → length line ≡ 3072 → number_said c.read-subframe.result ≡ subframe_read i (odd at.loop.before) (symbols part)
   read_is h n =
       c.read-subframe.ensures
-      ∙ ap (subframeRead i (odd at.loop.before)) (lent-symbols line i at.loop.before h n c.before.word.result (word-is h n))
+      ∙ ap (subframe_read i (odd at.loop.before)) (lent-symbols line i at.loop.before h n c.before.word.result (word-is h n))
 
 returns : tie.Need-returns invariant-loop decreases-loop
 returns c =
     let read = c.before.before.before in
     let loop = (at read).loop in
     let told = c.before.enum_told.given in
-    let said = c.without-body.ensures ∙ ap (λ a. verdict (numberSaid a)) told.1 in
+    let said = c.without-body.ensures ∙ ap (λ a. verdict (number_said a)) told.1 in
     ap (mapped (λ u. loop.bodies)) said
     ∙ read-stop (line read) (i read) loop.before (omega arith) (omega arith) loop.bodies _ _ _
-    (sym (read_is read (omega arith) (omega arith)) ∙ ap numberSaid told.1) loop.inv.2
+    (sym (read_is read (omega arith) (omega arith)) ∙ ap number_said told.1) loop.inv.2
 
 mul-bodies : tie.Need-overflow-mul-bodies invariant-loop decreases-loop
 mul-bodies c = omega arith
@@ -129,7 +129,7 @@ loop-again c =
       omega arith,
       simp length-set loop.inv.1,
       read-turn (line read) (i read) loop.before (omega arith) (omega arith) read.before.word.result (word-is read (omega arith) (omega arith))
-          loop.bodies _ _ (omega arith) (sym (read_is read (omega arith) (omega arith)) ∙ ap numberSaid told.1) loop.inv.2,
+          loop.bodies _ _ (omega arith) (sym (read_is read (omega arith) (omega arith)) ∙ ap number_said told.1) loop.inv.2,
     )
 
 same-length-2 : tie.Need-same-length-2 invariant-loop decreases-loop

@@ -9,8 +9,8 @@ use lib.IntN.{ℤ}
 use lib.ListN.{length}
 use Rattle.answer.specs.Answer.{Answer, Answer.accepted, Answer.refused}
 use Rattle.answer.specs.Demand.Stops.{fails, later}
-use Rattle.block.specs.Side.{sideLength}
-use Rattle.aes3_line.specs.Line.{bodiesOn}
+use Rattle.block.specs.Side.{side_length}
+use Rattle.aes3_line.specs.Line.{bodies_on}
 use Rattle.aes3_read.specs.Inner.{decoded}
 use Rattle.aes3_read.proofs.BlockReading.{shows-stop, shows-refused, shows-read}
 use Rattle.aes3_read.proofs.read_block.Statement.{statement}
@@ -36,7 +36,7 @@ module _ (c : tie.Else3) where
   ns : length samples ≡ 384
   ns = c.before.if2.false
 
-  nt : length side ≡ sideLength
+  nt : length side ≡ side_length
   nt = c.if3.false
 
 returns : tie.Need-returns
@@ -48,7 +48,7 @@ returns-2 c = shows-stop _ _ _ (later (eq-eqb _ 3072 c.before.if1.false) (fails 
 returns-3 : tie.Need-returns-3
 returns-3 c =
     shows-stop _ _ _
-    (later (eq-eqb _ 3072 c.before.before.if1.false) (later (eq-eqb _ 384 c.before.if2.false) (fails (ne_eqb _ sideLength c.if3.true))))
+    (later (eq-eqb _ 3072 c.before.before.if1.false) (later (eq-eqb _ 384 c.before.if2.false) (fails (ne_eqb _ side_length c.if3.true))))
 
 slice-aggregate-decode-line : tie.Need-slice-aggregate-decode-line
 slice-aggregate-decode-line c = search rules
@@ -64,7 +64,7 @@ returns-4 c =
     let read = c.before.before.before.before in
     let t = read.before.before in
     let got = c.before.got.given in
-    let e : refused got.0.0 got.0.1.0 ≡ bodiesOn (line t) = rw got.1 at read.decode-line.ensures in
+    let e : refused got.0.0 got.0.1.0 ≡ bodies_on (line t) = rw got.1 at read.decode-line.ensures in
     shows-refused (line t) (samples t) (side t) (nl t) (ns t) (nt t) got.0.0 got.0.1.0 e
 
 enum_told : tie.Need-enum-told
@@ -96,7 +96,7 @@ returns-5 c =
     let t = read.before.before in
     let bodies = read.decode-line.new.1.0 in
     let n : length bodies ≡ 384 = search rules in
-    let e : accepted bodies ≡ bodiesOn (line t) = rw told.enum_told.given.1 at read.decode-line.ensures in
+    let e : accepted bodies ≡ bodies_on (line t) = rw told.enum_told.given.1 at read.decode-line.ensures in
     let f = fill.fill-block in
     shows-read (line t) (samples t) (side t) (nl t) (ns t) (nt t) bodies f.new.1.0 f.new.1.1.0 c.before.before.crcc.result
     c.crcc2.result n e f.ensures.1.0 f.ensures.1.1 c.before.before.crcc.ensures c.crcc2.ensures

@@ -6,11 +6,11 @@ use Prim.Native.Nat.{ℕ, ◌-◌, ◌%◌, ◌^◌}
 use native.Mathlib.Nat.{mod-eq_of_lt}
 use native.Mathlib.Omega.{arith}
 use Rattle.bits.specs.Pick.{pick}
-use Rattle.bits.specs.Row.{odd, bigBits, big}
+use Rattle.bits.specs.Row.{odd, big_bits, big}
 use Rattle.bits.proofs.Digits.{odd-mod}
-use Rattle.bits.proofs.Rows.{length-bigBits, big-bigBits}
-use Rattle.line.proofs.PreambleLaws.{word_after}
-use Rattle.aes3_line.specs.Subframe.{subframeRead}
+use Rattle.bits.proofs.Rows.{length-big_bits, big-big_bits}
+use Rattle.line.proofs.PreambleLaws.{word_after_lem}
+use Rattle.aes3_line.specs.Subframe.{subframe_read}
 use Rattle.aes3_line.proofs.Polarity.{read-after}
 use Rattle.aes3_read.proofs.read_subframe.Statement.{statement}
 use Rattle.aes3_read.proofs.read_subframe.Tie as tie
@@ -28,17 +28,17 @@ returns : tie.Need-returns
 returns c =
     let level = c.before in
     let a = level.before.before.args in
-    let s = bigBits 64 a.w in
+    let s = big_bits 64 a.w in
     let l = odd a.before in
-    let same : a.w ≡ big s = sym (big-bigBits 64 a.w ∙ mod-eq_of_lt (omega arith)) in
+    let same : a.w ≡ big s = sym (big-big_bits 64 a.w ∙ mod-eq_of_lt (omega arith)) in
     let w : level.after-level.result ≡ pick l (2 ^ 64 - 1 - big s) (big s) =
     level.after-level.ensures
     ∙ ap (λ (k : Bool). pick k (2 ^ 64 - 1 - a.w) a.w) (odd-mod a.before)
     ∙ ap (λ (v : ℕ). pick l (2 ^ 64 - 1 - v) v) same in
     c.read_word.ensures
-    ∙ ap (λ (v : ℕ). subframeRead a.i false (bigBits 64 v)) w
-    ∙ ap (subframeRead a.i false) (word_after l s (length-bigBits 64 a.w))
-    ∙ read-after a.i l s (omega (arith, length-bigBits 64 a.w))
+    ∙ ap (λ (v : ℕ). subframe_read a.i false (big_bits 64 v)) w
+    ∙ ap (subframe_read a.i false) (word_after_lem l s (length-big_bits 64 a.w))
+    ∙ read-after a.i l s (omega (arith, length-big_bits 64 a.w))
 
 pub read-subframe-spec : {M : Type 1} → statement M
 read-subframe-spec = tie.close (tie.spec cast-after-level after-level-requires read-word-requires returns)

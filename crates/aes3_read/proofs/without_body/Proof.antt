@@ -2,7 +2,7 @@
 use mathlib.Core.Path.{sym, ap}
 use borrow.Author.Rules.{rules}
 use Rattle.answer.specs.Answer.{verdict}
-use Rattle.answer.specs.Said.{numberSaid}
+use Rattle.answer.specs.Said.{number_said}
 use Rattle.aes3_read.proofs.without_body.Statement.{statement}
 use Rattle.aes3_read.proofs.without_body.Tie as tie
 
@@ -16,7 +16,7 @@ returns : tie.Need-returns
 returns c = search rules
 
 returns-2 : tie.Need-returns-2
-returns-2 c = ap (λ a. verdict (numberSaid a)) (sym c.before.answer.given.1)
+returns-2 c = ap (λ a. verdict (number_said a)) (sym c.before.answer.given.1)
 
 pub without-body-spec : {M : Type 1} → statement M
 without-body-spec = tie.close (tie.spec enum_told enum-known-answer returns returns-2)

@@ -3,7 +3,7 @@ use borrow.Author.Rules.{rules}
 use mathlib.Core.Path.{◌≡◌, ap, ◌∙◌}
 use Prim.Native.Nat.{ℕ, ◌+◌, ◌*◌, ◌^◌, ◌<◌}
 use native.Mathlib.Omega.{arith}
-use Rattle.subframe.specs.Body.{parityOf}
+use Rattle.subframe.specs.Body.{parity_of}
 use Rattle.subframe.proofs.BodyLaws.{parity-lt}
 use Rattle.aes3_write.proofs.Writing.{same-parity}
 use Rattle.aes3_write.proofs.last_slots.Statement.{statement}

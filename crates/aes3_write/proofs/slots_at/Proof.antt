@@ -13,7 +13,7 @@ use Rattle.line.specs.Biphase.{biphase}
 use Rattle.subframe.specs.Signed.{code_of}
 use Rattle.subframe.specs.Body.{slots}
 use Rattle.subframe.proofs.SignedLaws.{code_lt}
-use Rattle.aes3_write.specs.Inner.{bodyWith}
+use Rattle.aes3_write.specs.Inner.{body_with}
 use Rattle.aes3_write.proofs.slots_at.Statement.{statement}
 use Rattle.aes3_write.proofs.slots_at.Tie as tie
 
@@ -49,7 +49,7 @@ returns : tie.Need-returns
 returns c =
     let f = (start c.before).args.flags in
     let e = c.slots-word.ensures in
-    (e.0 ∙ ap (λ (k : ℕ). big (biphase false (slots (bodyWith k f)))) (coded c.before), e.1)
+    (e.0 ∙ ap (λ (k : ℕ). big (biphase false (slots (body_with k f)))) (coded c.before), e.1)
 
 pub slots-at-spec : {M : Type 1} → statement M
 slots-at-spec =

@@ -4,7 +4,7 @@ use mathlib.Core.List.{List}
 use Prim.Native.Nat.{ℕ}
 use native.Mathlib.Omega.{arith}
 use lib.ListN.{length, get_or}
-use Rattle.aes3_write.specs.Inner.{spread, spreadTable}
+use Rattle.aes3_write.specs.Inner.{spread, spread_table}
 use Rattle.aes3_write.proofs.Flags.{length-spreads, spread_at, spread-lt}
 use borrow.Author.Rules.{rules}
 use Rattle.aes3_write.proofs.spread_octet.Statement.{statement}

@@ -1,12 +1,12 @@
 -- `aes3_write::spreads_by_octet` meets its contract: one test, which antt computes over all 256 entries. Assumes nothing.
 use mathlib.Core.Path.{refl}
 use Rattle.bits.specs.Listed.{listed}
-use Rattle.aes3_write.specs.Inner.{spread, spreadTable}
+use Rattle.aes3_write.specs.Inner.{spread, spread_table}
 use Rattle.aes3_write.proofs.spreads_by_octet.Statement.{statement}
 use Rattle.aes3_write.proofs.spreads_by_octet.Tie as tie
 
 returns : tie.Need-returns
-unfolding spreadTable spread listed
+unfolding spread_table spread listed
 returns c = refl
 
 pub spreads-by-octet-spec : {M : Type 1} → statement M

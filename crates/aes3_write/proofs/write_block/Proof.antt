@@ -11,12 +11,12 @@ use lib.ListN.{length}
 use Rattle.answer.specs.Answer.{Answer.accepted, Answer.refused}
 use Rattle.answer.specs.Demand.{◌&◌}
 use Rattle.answer.specs.Demand.Stops.{fails, later}
-use Rattle.answer.specs.Said.{verdictSaid}
+use Rattle.answer.specs.Said.{verdict_said}
 use Rattle.answer.proofs.Residues.{shows-refusal, shows-acceptance}
-use Rattle.block.specs.Side.{sideLength}
+use Rattle.block.specs.Side.{side_length}
 use Rattle.block.specs.Check.{checked}
 use Rattle.block.proofs.CheckLaws.{sound-met, unsound-stops}
-use Rattle.aes3_write.specs.Writer.{writeAnswer}
+use Rattle.aes3_write.specs.Writer.{write_answer}
 use Rattle.aes3_write.proofs.BlockWriting.{length-block}
 use Rattle.aes3_write.proofs.write_block.Statement.{statement}
 use Rattle.aes3_write.proofs.write_block.Tie as tie
@@ -35,7 +35,7 @@ module _ (c : tie.Else4) where
   ns : length samples ≡ 384
   ns = c.before.before.before.if1.false
 
-  nt : length side ≡ sideLength
+  nt : length side ≡ side_length
   nt = c.before.before.if2.false
 
   nl : length start.args.line.now ≡ 3072
@@ -45,24 +45,24 @@ module _ (c : tie.Else4) where
   level = omega arith
 
 returns : tie.Need-returns
-unfolding writeAnswer
+unfolding write_answer
 returns c = shows-refusal _ _ _ _ (fails (ne_eqb _ 384 c.if1.true))
 
 returns-2 : tie.Need-returns-2
-unfolding writeAnswer
-returns-2 c = shows-refusal _ _ _ _ (later (eq-eqb _ 384 c.before.if1.false) (fails (ne_eqb _ sideLength c.if2.true)))
+unfolding write_answer
+returns-2 c = shows-refusal _ _ _ _ (later (eq-eqb _ 384 c.before.if1.false) (fails (ne_eqb _ side_length c.if2.true)))
 
 returns-3 : tie.Need-returns-3
-unfolding writeAnswer
+unfolding write_answer
 returns-3 c =
     shows-refusal _ _ _ _
-    (later (eq-eqb _ 384 c.before.before.if1.false) (later (eq-eqb _ sideLength c.before.if2.false) (fails (ne_eqb _ 3072 c.if3.true))))
+    (later (eq-eqb _ 384 c.before.before.if1.false) (later (eq-eqb _ side_length c.before.if2.false) (fails (ne_eqb _ 3072 c.if3.true))))
 
 returns-4 : tie.Need-returns-4
-unfolding writeAnswer
+unfolding write_answer
 returns-4 c =
     shows-refusal _ _ _ _
-    (later (eq-eqb _ 384 c.before.before.before.if1.false) (later (eq-eqb _ sideLength c.before.before.if2.false)
+    (later (eq-eqb _ 384 c.before.before.before.if1.false) (later (eq-eqb _ side_length c.before.before.if2.false)
     (later (eq-eqb _ 3072 c.before.if3.false) (fails (le-ltb _ 2 c.if4.true)))))
 
 check-block-requires : tie.Need-check-block-requires
@@ -72,14 +72,14 @@ enum-known-found : tie.Need-enum-known-found
 enum-known-found c = search rules
 
 returns-5 : tie.Need-returns-5
-unfolding writeAnswer
+unfolding write_answer
 returns-5 c =
     let k = c.before.before.before in
     let t = k.before in
     let found = c.before.found.given in
-    let e : checked (samples t) (side t) ≡ refused found.0.0 found.0.1.0 = sym k.check-block.ensures ∙ ap verdictSaid found.1 in
+    let e : checked (samples t) (side t) ≡ refused found.0.0 found.0.1.0 = sym k.check-block.ensures ∙ ap verdict_said found.1 in
     shows-refusal _ _ _ _
-    (later (eq-eqb _ 384 (ns t)) (later (eq-eqb _ sideLength (nt t)) (later (eq-eqb _ 3072 (nl t)) (later (lt-ltb _ 2 (level t))
+    (later (eq-eqb _ 384 (ns t)) (later (eq-eqb _ side_length (nt t)) (later (eq-eqb _ 3072 (nl t)) (later (lt-ltb _ 2 (level t))
     (unsound-stops (samples t) (side t) (ns t) (nt t) e)))))
 
 enum_told : tie.Need-enum-told
@@ -88,17 +88,17 @@ enum_told c = search rules
 write-sound-requires : tie.Need-write-sound-requires
 write-sound-requires c κs =
     let k = c.before.before.before in
-    (sym k.check-block.ensures ∙ ap verdictSaid c.before.enum_told.given.1, omega arith, omega arith, omega arith, omega arith)
+    (sym k.check-block.ensures ∙ ap verdict_said c.before.enum_told.given.1, omega arith, omega arith, omega arith, omega arith)
 
 same_length : tie.Need-same-length
 same_length c = search rules
 
 returns-6 : tie.Need-returns-6
-unfolding writeAnswer
+unfolding write_answer
 returns-6 c =
     let k = c.before.before.before.before.before.before in
     let t = k.before in
-    let e : checked (samples t) (side t) ≡ accepted tt = sym k.check-block.ensures ∙ ap verdictSaid c.before.before.before.before.enum_told.given.1 in
+    let e : checked (samples t) (side t) ≡ accepted tt = sym k.check-block.ensures ∙ ap verdict_said c.before.before.before.before.enum_told.given.1 in
     let m = sound-met (samples t) (side t) e in
     shows-acceptance _ _ _ _ _
     (m.0 & m.1.0 & eq-eqb _ 3072 (nl t) & lt-ltb _ 2 (level t) & m.1.1)

@@ -6,11 +6,11 @@ use Prim.Native.Nat.{ℕ, ◌+◌, ◌*◌, ◌/◌, ◌%◌, ◌^◌}
 use native.Mathlib.Omega.{arith}
 use lib.IntN.{pos}
 use lib.ListN.{length, get_or}
-use Rattle.bits.specs.Row.{odd, bigBits, big}
+use Rattle.bits.specs.Row.{odd, big_bits, big}
 use Rattle.bits.specs.Pack.{octets}
 use Rattle.bits.proofs.Packing.{length-pack}
 use Rattle.subframe.specs.Signed.{code_of}
-use Rattle.aes3_write.specs.Inner.{opened, wordAfter, bodyWith}
+use Rattle.aes3_write.specs.Inner.{opened, word_after, body_with}
 use Rattle.aes3_write.proofs.Writing.{word-opened}
 use Rattle.aes3_write.proofs.LineWriting.{halves-laid}
 use Rattle.aes3_write.proofs.write_frame.Statement.{statement}
@@ -64,14 +64,14 @@ returns c =
     let start = v.before.before.before.before in
     let a = start.args in
     let l = odd a.level in
-    let body : ℕ → ℕ → ℕ = λ i f. bodyWith (code_of 24 (get_or a.samples.now i (pos 0))) f in
+    let body : ℕ → ℕ → ℕ = λ i f. body_with (code_of 24 (get_or a.samples.now i (pos 0))) f in
     let o = first.write-subframe.new.1.1.1.0 in
     let p = second.write-subframe2.new.1.1.1.0 in
     let eo : o ≡ octets 8 (opened a.m l (body a.i (a.flags % 8))) =
-    first.write-subframe.ensures ∙ ap (λ (x : ℕ). octets 8 (bigBits 64 (wordAfter l (a.m * 2 ^ 56 + x)))) v.slots_at.ensures.0
+    first.write-subframe.ensures ∙ ap (λ (x : ℕ). octets 8 (big_bits 64 (word_after l (a.m * 2 ^ 56 + x)))) v.slots_at.ensures.0
     ∙ ap (octets 8) (word-opened a.m l (body a.i (a.flags % 8)) start.requires.6) in
     let ep : p ≡ octets 8 (opened 0b11100100 l (body (a.i + 1) (a.flags / 16 % 8))) =
-    second.write-subframe2.ensures ∙ ap (λ (x : ℕ). octets 8 (bigBits 64 (wordAfter l (0b11100100 * 2 ^ 56 + x)))) w.slots-at2.ensures.0
+    second.write-subframe2.ensures ∙ ap (λ (x : ℕ). octets 8 (big_bits 64 (word_after l (0b11100100 * 2 ^ 56 + x)))) w.slots-at2.ensures.0
     ∙ ap (octets 8) (word-opened 0b11100100 l (body (a.i + 1) (a.flags / 16 % 8)) (omega arith)) in
     let m = ap length eo ∙ length-pack big 8 8 (opened a.m l (body a.i (a.flags % 8))) in
     halves-laid a.part.now o p start.requires.7 m ∙ ap₂ (λ (x y : List ℕ). x ++ y) eo ep

@@ -9,10 +9,10 @@ use borrow.Rule.Slice.PartMut.{same_len_mid}
 use lib.ListN.{length, take, drop, length-take, length-drop}
 use Rattle.bits.specs.Row.{odd}
 use Rattle.bits.proofs.Filling.{filled-part}
-use Rattle.block.specs.Side.{columnLength}
-use Rattle.block.specs.Block.{bodiesOf}
+use Rattle.block.specs.Side.{column_length}
+use Rattle.block.specs.Block.{bodies_of}
 use Rattle.block.proofs.BlockLaws.{length-bodies}
-use Rattle.aes3_line.specs.Line.{lineFrom}
+use Rattle.aes3_line.specs.Line.{line_from}
 use Rattle.aes3_write.specs.Writer.{block_line}
 use Rattle.aes3_write.proofs.LineWriting.{all-written}
 use Rattle.aes3_write.proofs.write_line.Statement.{statement}
@@ -20,12 +20,12 @@ use Rattle.aes3_write.proofs.write_line.Tie as tie
 
 abbrev invariant-loop : tie.invariant-loop
 invariant-loop table inverting spreads samples side level line₀ j₀ line j =
-    (j ≤ columnLength)
+    (j ≤ column_length)
     × (length line ≡ 3072)
-    × (take (j * 128) line ++ lineFrom (16 * j) (odd level) (drop (16 * j) (bodiesOf samples side)) ≡ block_line samples side level)
+    × (take (j * 128) line ++ line_from (16 * j) (odd level) (drop (16 * j) (bodies_of samples side)) ≡ block_line samples side level)
 
 abbrev decreases-loop : tie.decreases-loop
-decreases-loop table inverting spreads samples side level line₀ j₀ line j = columnLength - j
+decreases-loop table inverting spreads samples side level line₀ j₀ line j = column_length - j
 
 loop-holds : tie.Need-loop-init invariant-loop decreases-loop
 unfolding block_line
@@ -66,9 +66,9 @@ loop-again c =
     let wrote = c.before.before.write-sixteen in
     let o = wrote.new.1.1.1.1.1.1.1.0 in
     let kept = wrote.auto.1.1.1.1.1.1.1.0 in
-    let bodies = bodiesOf a.samples.now a.side.now in
-    let rest = lineFrom (16 * loop.j + 16) (odd a.level) (drop (16 * loop.j + 16) bodies) in
-    let t : loop.j < columnLength = c.before.before.before.before.loop-test.true in
+    let bodies = bodies_of a.samples.now a.side.now in
+    let rest = line_from (16 * loop.j + 16) (odd a.level) (drop (16 * loop.j + 16) bodies) in
+    let t : loop.j < column_length = c.before.before.before.before.loop-test.true in
     let k : loop.j * 128 + 128 - loop.j * 128 ≡ 128 = omega arith in
     let z : length o ≡ 128 = kept ∙ rw (k, length-take, length-drop) (omega arith) in
     let e : 16 * (loop.j + 1) ≡ 16 * loop.j + 16 = omega arith in
@@ -86,8 +86,8 @@ returns c =
     let loop = c.before.loop in
     let start = c.before.before.before.before.before.before.before in
     let a = start.args in
-    let n : length (bodiesOf a.samples.now a.side.now) ≡ 384 = length-bodies a.samples.now a.side.now in
-    all-written loop.line (bodiesOf a.samples.now a.side.now) _ (16 * loop.j) (loop.j * 128) (odd a.level) (omega arith) (omega arith) loop.invariant.2
+    let n : length (bodies_of a.samples.now a.side.now) ≡ 384 = length-bodies a.samples.now a.side.now in
+    all-written loop.line (bodies_of a.samples.now a.side.now) _ (16 * loop.j) (loop.j * 128) (odd a.level) (omega arith) (omega arith) loop.invariant.2
 
 pub write-line-spec : {M : Type 1} → statement M
 write-line-spec =

@@ -14,12 +14,12 @@ use lib.Seq.{take_all}
 use Rattle.bits.specs.Row.{Row, odd, big}
 use Rattle.bits.specs.Pack.{octets}
 use Rattle.subframe.specs.Signed.{in_range, code_of}
-use Rattle.block.specs.Block.{bodiesOf}
-use Rattle.block.proofs.BlockLaws.{length-bodies, getD-bodies, proper}
+use Rattle.block.specs.Block.{bodies_of}
+use Rattle.block.proofs.BlockLaws.{length-bodies, get_or-bodies, proper}
 use Rattle.block.proofs.CheckLaws.{sound-passes}
 use Rattle.aes3_line.specs.Subframe.{due, subframe}
-use Rattle.aes3_line.specs.Line.{lineFrom}
-use Rattle.aes3_write.specs.Inner.{opened, bodyWith, flags, flagsFrom}
+use Rattle.aes3_line.specs.Line.{line_from}
+use Rattle.aes3_write.specs.Inner.{opened, body_with, flags, flags_from}
 use Rattle.aes3_line.proofs.Preambles.{due-lt, due-even, due-odd}
 use Rattle.aes3_write.proofs.Writing.{opened-due}
 use Rattle.aes3_write.proofs.LineWriting.{frame-turn}
@@ -31,10 +31,10 @@ abbrev invariant-loop : tie.invariant-loop
 invariant-loop table inverting spreads samples side j level part₀ left₀ m₀ f₀ part left m f =
     (f ≤ 8)
     × (length part ≡ 128)
-    × (left ≡ flagsFrom side (16 * j + 2 * f) (16 - 2 * f))
+    × (left ≡ flags_from side (16 * j + 2 * f) (16 - 2 * f))
     × (m ≡ big (due (16 * j + 2 * f)))
-    × (take (f * 16) part ++ lineFrom (16 * j + 2 * f) (odd level) (drop (16 * j + 2 * f) (bodiesOf samples side))
-    ≡ lineFrom (16 * j) (odd level) (drop (16 * j) (bodiesOf samples side)))
+    × (take (f * 16) part ++ line_from (16 * j + 2 * f) (odd level) (drop (16 * j + 2 * f) (bodies_of samples side))
+    ≡ line_from (16 * j) (odd level) (drop (16 * j) (bodies_of samples side)))
 
 abbrev decreases-loop : tie.decreases-loop
 decreases-loop table inverting spreads samples side j level part₀ left₀ m₀ f₀ part left m f = 8 - f
@@ -60,15 +60,15 @@ module _ (c : tie.In-loop invariant-loop decreases-loop) where
   abbrev index : ℕ
   index = 16 * start.args.j + 2 * at.loop.f
 
-  two-flags : (at.loop.left % 8 ≡ flags side index) × (at.loop.left / 16 % 8 ≡ flags side (index + 1)) × (at.loop.left / 256 ≡ flagsFrom side (index + 2) (14 - 2 * at.loop.f))
+  two-flags : (at.loop.left % 8 ≡ flags side index) × (at.loop.left / 16 % 8 ≡ flags side (index + 1)) × (at.loop.left / 256 ≡ flags_from side (index + 2) (14 - 2 * at.loop.f))
   two-flags =
       let t : at.loop.f < 8 = c.loop-test.true in
       let n : 16 - 2 * at.loop.f ≡ suc (suc (14 - 2 * at.loop.f)) = omega arith in
       flags-frame side index (14 - 2 * at.loop.f) at.loop.left (rw n at at.loop.inv.2)
 
   -- what is made of sample i is body i
-  carried : (i f : ℕ) → i < 384 → f ≡ flags side i → bodyWith (code_of 24 (get_or samples i (pos 0))) f ≡ get_or (bodiesOf samples side) i 0
-  carried i f h g = body-with side i samples f (ranges at i) g ∙ sym (getD-bodies samples side i h)
+  carried : (i f : ℕ) → i < 384 → f ≡ flags side i → body_with (code_of 24 (get_or samples i (pos 0))) f ≡ get_or (bodies_of samples side) i 0
+  carried i f h g = body-with side i samples f (ranges at i) g ∙ sym (get_or-bodies samples side i h)
 
 sixteen-requires : tie.Need-sixteen-requires invariant-loop decreases-loop
 sixteen-requires c κs =
@@ -143,7 +143,7 @@ loop-again c =
     let loop = (at k).loop in
     let wrote = c.before.before.write-frame in
     let o = wrote.new.1.1.1.1.1.1.1.0 in
-    let bodies = bodiesOf (samples k) (side k) in
+    let bodies = bodies_of (samples k) (side k) in
     let n : length bodies ≡ 384 = length-bodies (samples k) (side k) in
     let i = index k in
     let l = odd p.args.level in
@@ -154,9 +154,9 @@ loop-again c =
     let s : (loop.f + 1) * 16 ≡ loop.f * 16 + 16 = omega arith in
     let a = get_or bodies i 0 in
     let b = get_or bodies (i + 1) 0 in
-    let x : opened loop.m l (bodyWith (code_of 24 (get_or (samples k) i (pos 0))) (loop.left % 8)) ≡ subframe i l a =
+    let x : opened loop.m l (body_with (code_of 24 (get_or (samples k) i (pos 0))) (loop.left % 8)) ≡ subframe i l a =
     ap₂ (λ (m b : ℕ). opened m l b) loop.inv.3 (carried k i (loop.left % 8) (omega arith) two.0) ∙ opened-due i l a in
-    let y : opened 0b11100100 l (bodyWith (code_of 24 (get_or (samples k) (i + 1) (pos 0))) (loop.left / 16 % 8)) ≡ subframe (suc i) l b =
+    let y : opened 0b11100100 l (body_with (code_of 24 (get_or (samples k) (i + 1) (pos 0))) (loop.left / 16 % 8)) ≡ subframe (suc i) l b =
     ap₂ (λ (m b : ℕ). opened m l b) (due-odd (suc i) (omega arith)) (carried k (i + 1) (loop.left / 16 % 8) (omega arith) two.1) ∙ opened-due (suc i) l b in (
       omega arith,
       same_len_mid {X = ℕ} (loop.f * 16) (loop.f * 16 + 16 - loop.f * 16) loop.part o wrote.auto.1.1.1.1.1.1.1.0 ∙ loop.inv.1,

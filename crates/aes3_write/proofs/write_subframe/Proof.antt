@@ -2,9 +2,9 @@
 use borrow.Author.Rules.{rules}
 use mathlib.Core.Path.{ap, ◌∙◌}
 use Prim.Native.Nat.{ℕ}
-use Rattle.bits.specs.Row.{bigBits}
+use Rattle.bits.specs.Row.{big_bits}
 use Rattle.bits.specs.Pack.{octets}
-use Rattle.aes3_write.specs.Inner.{wordAfter}
+use Rattle.aes3_write.specs.Inner.{word_after}
 use Rattle.aes3_write.proofs.write_subframe.Statement.{statement}
 use Rattle.aes3_write.proofs.write_subframe.Tie as tie
 
@@ -24,11 +24,11 @@ same_length : tie.Need-same-length
 same_length c = search rules
 
 returns : tie.Need-returns
-unfolding wordAfter
+unfolding word_after
 returns c =
     let laid = c.before.before in
     let level = laid.before.before in
-    laid.lay.ensures ∙ ap (λ (w : ℕ). octets 8 (bigBits 64 w)) level.after-level.ensures
+    laid.lay.ensures ∙ ap (λ (w : ℕ). octets 8 (big_bits 64 w)) level.after-level.ensures
 
 pub write-subframe-spec : {M : Type 1} → statement M
 write-subframe-spec =

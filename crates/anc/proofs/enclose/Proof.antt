@@ -7,9 +7,9 @@ use borrow.Author.Rules.{rules}
 use borrow.Author.Tests.{eq-eqb, ne_eqb}
 use lib.ListN.{length, get_or, set, length-set}
 use Rattle.bits.proofs.Filling.{over, over-next, over-all, length_over}
-use Rattle.anc.specs.Word.{checkWord}
+use Rattle.anc.specs.Word.{check_word}
 use Rattle.anc.specs.Enclosed.{enclosed}
-use Rattle.anc.specs.Inner.{laidOut}
+use Rattle.anc.specs.Inner.{laid_out}
 use Rattle.anc.proofs.Enclosing.{length-enclosed, enclosed-at, enclosed-last}
 use Rattle.anc.proofs.enclose.Statement.{statement}
 use Rattle.anc.proofs.enclose.Tie as tie
@@ -70,14 +70,14 @@ module _ (c : tie.At-loop invariant-loop decreases-loop) where
       ∙ over-next (3 + k) (enclosed coded) old 0 (omega (arith, new-long)) (omega (arith, old-long))
       ∙ ap (λ (n : ℕ). over n (enclosed coded) old) q
 
-  last : (v : ℕ) → length coded ≤ k → v ≡ checkWord coded → set c.loop.words (3 + k) v ≡ enclosed coded
+  last : (v : ℕ) → length coded ≤ k → v ≡ check_word coded → set c.loop.words (3 + k) v ≡ enclosed coded
   last v h e =
       let q : k ≡ length coded = omega (arith, c.loop.invariant.0) in
       next v c.loop.invariant.0 (e ∙ sym (ap (λ (n : ℕ). get_or (enclosed coded) (3 + n) 0) q ∙ enclosed-last coded (length coded) refl))
       ∙ over-all (3 + (k + 1)) (enclosed coded) old (omega (arith, new-long)) (omega (arith, old-long))
 
 returns : tie.Need-returns invariant-loop decreases-loop
-unfolding laidOut
+unfolding laid_out
 returns c =
     let ws = c.before.before.before.args.words.now in
     simp (ne_eqb (length ws) (4 + length c.before.before.before.args.coded.now) (λ e. omega (arith, c.if1.true)))
@@ -86,7 +86,7 @@ sub-if2 : tie.Need-overflow-sub-if2 invariant-loop decreases-loop
 sub-if2 c = search rules
 
 returns-2 : tie.Need-returns-2 invariant-loop decreases-loop
-unfolding laidOut
+unfolding laid_out
 returns-2 c =
     let a = c.before.before.before.before.args in
     simp (ne_eqb (length a.words.now) (4 + length a.coded.now) (λ e. c.if2.true (omega (arith, e))))
@@ -148,7 +148,7 @@ same_length c =
     length-set p.loop.words (3 + k p) c.check-word.result ∙ long p ∙ sym (room p.before)
 
 returns-3 : tie.Need-returns-3 invariant-loop decreases-loop
-unfolding laidOut
+unfolding laid_out
 returns-3 c =
     let p = c.before.before in
     simp (eq-eqb (length (given p.before)) (4 + length (coded p)) (room p.before))

@@ -12,7 +12,7 @@ use Rattle.answer.specs.Answer.{Answer.accepted}
 use Rattle.answer.specs.Demand.{◌&◌}
 use Rattle.answer.specs.Demand.Stops.{fails, later}
 use Rattle.answer.proofs.Chains.{passing, stopped}
-use Rattle.anc.specs.Head.{didIn, groupIn, headAnswer}
+use Rattle.anc.specs.Head.{did_in, group_in, head_answer}
 use Rattle.anc.proofs.Heads.{named, unnamed}
 use Rattle.anc.proofs.read_head.Statement.{statement}
 use Rattle.anc.proofs.read_head.Tie as tie
@@ -28,14 +28,14 @@ module _ (g : tie.After-group-of) where
   abbrev w : ℕ
   w = get_or start.args.words.now 3 0
 
-  no-did : g.Group-of.result ≡ 0 → eqb w (didIn dids (groupIn dids w)) ≡ false
+  no-did : g.Group-of.result ≡ 0 → eqb w (did_in dids (group_in dids w)) ≡ false
   no-did e = unnamed dids w (omega arith) (sym g.Group-of.ensures ∙ e)
 
-  a-did : (g.Group-of.result ≡ 0 → ⊥) → eqb w (didIn dids (groupIn dids w)) ≡ true
-  a-did n = eq-eqb w (didIn dids (groupIn dids w)) (named dids w (λ e. n (g.Group-of.ensures ∙ e))).word
+  a-did : (g.Group-of.result ≡ 0 → ⊥) → eqb w (did_in dids (group_in dids w)) ≡ true
+  a-did n = eq-eqb w (did_in dids (group_in dids w)) (named dids w (λ e. n (g.Group-of.ensures ∙ e))).word
 
 returns : tie.Need-returns
-unfolding headAnswer
+unfolding head_answer
 returns c =
     sym (stopped _ (fails (lt-leb 6 _ c.if1.true)))
 
@@ -46,7 +46,7 @@ no-head-requires : tie.Need-no-head-requires
 no-head-requires c κs = search rules
 
 returns-2 : tie.Need-returns-2
-unfolding headAnswer
+unfolding head_answer
 returns-2 c =
     let t = c.before in
     c.no-head.ensures ∙ sym (stopped _ (later (le-leb 6 _ t.before.before.if1.false) (fails (ne_eqb _ _ t.if2.true))))
@@ -58,7 +58,7 @@ no-head-requires-2 : tie.Need-no-head-requires-2
 no-head-requires-2 c κs = search rules
 
 returns-3 : tie.Need-returns-3
-unfolding headAnswer
+unfolding head_answer
 returns-3 c =
     let t = c.before in
     let two = t.before.before in
@@ -72,7 +72,7 @@ no-head-requires-3 : tie.Need-no-head-requires-3
 no-head-requires-3 c κs = search rules
 
 returns-4 : tie.Need-returns-4
-unfolding headAnswer
+unfolding head_answer
 returns-4 c =
     let t = c.before in
     let three = t.before.before in
@@ -91,7 +91,7 @@ no-head-requires-4 : tie.Need-no-head-requires-4
 no-head-requires-4 c κs = search rules
 
 returns-5 : tie.Need-returns-5
-unfolding headAnswer
+unfolding head_answer
 returns-5 c =
     let t = c.before in
     let g = t.before in
@@ -110,7 +110,7 @@ no-head-requires-5 : tie.Need-no-head-requires-5
 no-head-requires-5 c κs = search rules
 
 returns-6 : tie.Need-returns-6
-unfolding headAnswer
+unfolding head_answer
 returns-6 c =
     let t = c.before in
     let five = t.before.before in
@@ -124,7 +124,7 @@ returns-6 c =
     (later (a-did g five.if5.false) (fails (ne_eqb _ _ t.if6.true))))))))
 
 returns-7 : tie.Need-returns-7
-unfolding headAnswer
+unfolding head_answer
 returns-7 c =
     let five = c.before.before in
     let g = five.before in

@@ -5,18 +5,18 @@ use native.Mathlib.Omega.{arith}
 use borrow.Author.Rules.{rules}
 use borrow.Author.Tests.{eq-eqb, ne_eqb, lt-ltb, le-ltb}
 use lib.ListN.{take, drop}
-use Rattle.codes.specs.Crcc.{crccRight}
-use Rattle.block.specs.Side.{status, columns, columnLength, columnIn}
-use Rattle.block.specs.Check.{statusOf, statusRight}
+use Rattle.codes.specs.Crcc.{crcc_right}
+use Rattle.block.specs.Side.{status, columns, column_length, column_in}
+use Rattle.block.specs.Check.{status_of, status_right}
 use Rattle.block.proofs.status_right.Statement.{statement}
 use Rattle.block.proofs.status_right.Tie as tie
 
 returns : tie.Need-returns
-unfolding statusRight
+unfolding status_right
 returns c = simp (ne_eqb _ _ c.if1.true)
 
 returns-2 : tie.Need-returns-2
-unfolding statusRight
+unfolding status_right
 returns-2 c = simp (eq-eqb _ _ c.before.if1.false, le-ltb _ _ c.if2.true)
 
 mul-a : tie.Need-overflow-mul-a
@@ -44,13 +44,13 @@ crcc-right-requires : tie.Need-crcc-right-requires
 crcc-right-requires c κs = search rules
 
 returns-3 : tie.Need-returns-3
-unfolding statusRight statusOf columnIn
+unfolding status_right status_of column_in
 returns-3 c =
     let s = c.before.before.before.before.before in
-    let a = columnLength * (columns * s.args.channel + status) in
-    let n : a + columnLength - a ≡ columnLength = omega arith in
+    let a = column_length * (columns * s.args.channel + status) in
+    let n : a + column_length - a ≡ column_length = omega arith in
     simp (eq-eqb _ _ c.before.before.before.if1.false, lt-ltb _ _ c.before.before.if2.false)
-    (c.crcc-right.ensures ∙ ap (λ (k : ℕ). crccRight (take k (drop a s.args.side.now))) n)
+    (c.crcc-right.ensures ∙ ap (λ (k : ℕ). crcc_right (take k (drop a s.args.side.now))) n)
 
 pub status-right-spec : {M : Type 1} → statement M
 status-right-spec =

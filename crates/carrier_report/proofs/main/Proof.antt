@@ -6,7 +6,7 @@ use native.Mathlib.Omega.{arith}
 use lib.ListN.{length, drop, length-append}
 use lib.Seq.{length-take-le, length_front}
 use Rattle.report.specs.Text.{heading}
-use Rattle.records.specs.Head.{bodySize}
+use Rattle.records.specs.Head.{body_size}
 use Rattle.report.proofs.Lengths.{starts, heading-size}
 use Rattle.report.proofs.Written.{step-starts, step-size}
 use Rattle.records.proofs.HeadLaws.{read_fits}
@@ -21,7 +21,7 @@ invariant-loop head₀ body₀ out₀ start n₀ head body out n = (length head 
 abbrev decreases-loop : tie.decreases-loop
 decreases-loop head₀ body₀ out₀ start n₀ head body out n = 18446744073709551615 - n
 
-fits : (head : List ℕ) {size : ℕ} → size ≡ bodySize head → size ≤ 8192
+fits : (head : List ℕ) {size : ℕ} → size ≡ body_size head → size ≤ 8192
 fits head e = omega (arith, e, read_fits head)
 
 longer : (a b : List ℕ) {n : ℕ} → n ≤ length a → n ≤ length (a ++ b)

@@ -5,15 +5,15 @@ use Prim.Native.Nat.{ℕ, ◌+◌, ◌-◌, ◌≤◌, ◌<◌}
 use native.Mathlib.Omega.{arith}
 use borrow.Author.Rules.{rules}
 use lib.ListN.{get_or}
-use Rattle.codes.specs.Crcc.{octetOf}
-use Rattle.codes.specs.Inner.{crccAdded}
+use Rattle.codes.specs.Crcc.{octet_of}
+use Rattle.codes.specs.Inner.{crcc_added}
 use Rattle.codes.proofs.SentOctet.{octet-lt}
 use Rattle.codes.proofs.EditLaws.{followed, added-first, added_next}
 use Rattle.codes.proofs.crcc_added.Statement.{statement}
 use Rattle.codes.proofs.crcc_added.Tie as tie
 
 abbrev invariant-loop : tie.invariant-loop
-invariant-loop byte difference table c₀ i₀ c i = (byte ≤ i) × (i - byte ≤ 22 - byte) × (c ≡ octetOf (followed difference (i - byte)))
+invariant-loop byte difference table c₀ i₀ c i = (byte ≤ i) × (i - byte ≤ 22 - byte) × (c ≡ octet_of (followed difference (i - byte)))
 
 abbrev decreases-loop : tie.decreases-loop
 decreases-loop byte difference table c₀ i₀ c i = 22 - i
@@ -36,7 +36,7 @@ loop-holds c =
     let none : 0 ≡ c.before.args.byte - c.before.args.byte = omega arith in (
       search rules,
       search rules,
-      added-first c.sent-table.result d c.sent-table.ensures (omega arith) ∙ ap (λ (n : ℕ). octetOf (followed d n)) none,
+      added-first c.sent-table.result d c.sent-table.ensures (omega arith) ∙ ap (λ (n : ℕ). octet_of (followed d n)) none,
     )
 
 cast-c : tie.Need-overflow-cast-c invariant-loop decreases-loop
@@ -61,15 +61,15 @@ loop-again c =
       search rules,
       search rules,
       ap (λ (x : ℕ). get_or table x 0) p.loop.invariant.2 ∙ added_next table d n p.before.sent-table.ensures
-          ∙ ap (λ (k : ℕ). octetOf (followed d k)) more,
+          ∙ ap (λ (k : ℕ). octet_of (followed d k)) more,
     )
 
 returns : tie.Need-returns invariant-loop decreases-loop
-unfolding crccAdded
+unfolding crcc_added
 returns c =
     let p = c.before in
     let all : p.loop.i - p.before.before.args.byte ≡ 22 - p.before.before.args.byte = omega arith in
-    p.loop.invariant.2 ∙ ap (λ (n : ℕ). octetOf (followed p.before.before.args.difference n)) all
+    p.loop.invariant.2 ∙ ap (λ (n : ℕ). octet_of (followed p.before.before.args.difference n)) all
 
 pub crcc-added-spec : {M : Type 1} → statement M
 crcc-added-spec =

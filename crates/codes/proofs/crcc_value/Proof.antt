@@ -8,12 +8,12 @@ use Rattle.answer.specs.Answer.{Answer.accepted}
 use Rattle.answer.specs.Demand.{◌&◌}
 use Rattle.answer.specs.Demand.Stops.{fails}
 use Rattle.answer.proofs.Chains.{passing, stopped}
-use Rattle.codes.specs.Crcc.{stagesSent}
+use Rattle.codes.specs.Crcc.{stages_sent}
 use Rattle.codes.proofs.crcc_value.Statement.{statement}
 use Rattle.codes.proofs.crcc_value.Tie as tie
 
 returns : tie.Need-returns
-unfolding stagesSent
+unfolding stages_sent
 returns c = sym (stopped _ (fails (lt-leb _ 255 c.if1.true)))
 
 cast-t4 : tie.Need-overflow-cast-t4
@@ -26,7 +26,7 @@ cast-t5 : tie.Need-overflow-cast-t5
 cast-t5 c = search rules
 
 returns-2 : tie.Need-returns-2
-unfolding stagesSent
+unfolding stages_sent
 returns-2 c =
     simp c.value.ensures (sym (passing _ _ (le-leb c.before.before.args.stages 255 (omega (arith, c.before.if1.false)) & tt)))
 

@@ -7,14 +7,14 @@ use borrow.Author.Rules.{rules}
 use borrow.Author.Tests.{eq-eqb, ne_eqb}
 use lib.ListN.{length, take, length-set, drop_of_length-le}
 use lib.Seq.{sets, sets-eq}
-use Rattle.codes.specs.Lanes.{checkOctets}
-use Rattle.codes.specs.Inner.{withChecks}
+use Rattle.codes.specs.Lanes.{check_octets}
+use Rattle.codes.specs.Inner.{with_checks}
 use Rattle.codes.proofs.fill_checks.Statement.{statement}
 use Rattle.codes.proofs.fill_checks.Tie as tie
 
 -- six stores are the check octets after the 24 that stand
-stored : (os cs : List ℕ) → length os ≡ 30 → length cs ≡ 6 → cs ≡ checkOctets (take 24 os) → sets os 24 cs ≡ withChecks os
-unfolding withChecks
+stored : (os cs : List ℕ) → length os ≡ 30 → length cs ≡ 6 → cs ≡ check_octets (take 24 os) → sets os 24 cs ≡ with_checks os
+unfolding with_checks
 stored os cs h n e =
     sets-eq cs os 24 (omega arith)
     ∙ ap (λ (t : List ℕ). (take 24 os ++ cs) ++ t) (drop_of_length-le os {i = 24 + length cs} (omega arith))
@@ -22,7 +22,7 @@ stored os cs h n e =
     ∙ sym (rw (eq-eqb (length os) 30 h))
 
 returns : tie.Need-returns
-unfolding withChecks
+unfolding with_checks
 returns c = simp (ne_eqb _ _ c.if1.true)
 
 checks-requires : tie.Need-checks-requires

@@ -12,7 +12,7 @@ use Rattle.bits.specs.Pick.{first}
 use Rattle.bits.proofs.Firsts.{first-hit, first_next, first-miss}
 use Rattle.bits.proofs.Places.{first-none}
 use Rattle.codes.specs.Lanes.{lane_of, failing}
-use Rattle.codes.specs.Inner.{syndrome, sixOctets, lackOctets, firstFailing}
+use Rattle.codes.specs.Inner.{syndrome, six_octets, lack_octets, first_failing}
 use Rattle.codes.proofs.CheckLaws.{lane-lacks, clean-lacks, failing-lacks}
 use Rattle.codes.proofs.first_failing.Statement.{statement}
 use Rattle.codes.proofs.first_failing.Tie as tie
@@ -30,17 +30,17 @@ decreases-loop octets s i₀ i = 8 - i
 -- ---- over plain variables
 
 -- the answer where there are 30 octets
-whole : (os : List ℕ) → length os ≡ 30 → left os 0 ≡ firstFailing os
-unfolding firstFailing
+whole : (os : List ℕ) → length os ≡ 30 → left os 0 ≡ first_failing os
+unfolding first_failing
 whole os h = rw (eq-eqb (length os) 30 h)
 
 -- the code's test of lane i
-tested : (os : List ℕ) (g i : ℕ) (s : List ℕ) → length os ≡ 30 → i < 8 → s ≡ lackOctets os → g ≡ lane_of i s → failing os i ≡ not (eqb g 0)
+tested : (os : List ℕ) (g i : ℕ) (s : List ℕ) → length os ≡ 30 → i < 8 → s ≡ lack_octets os → g ≡ lane_of i s → failing os i ≡ not (eqb g 0)
 tested os g i s h l e q =
     failing-lacks os h i ∙ ap (λ (x : ℕ). not (eqb x 0)) (sym (q ∙ ap (lane_of i) e ∙ lane-lacks os h i l))
 
 returns : tie.Need-returns invariant-loop decreases-loop
-unfolding firstFailing
+unfolding first_failing
 returns c = simp (ne_eqb _ _ c.if1.true)
 
 lacks-requires : tie.Need-lacks-requires invariant-loop decreases-loop
@@ -79,7 +79,7 @@ returns-3 c =
     let k = p.before.before.before in
     let os = k.before.before.before.args.octets.now in
     let h = k.before.if1.false in
-    let t = tested os g.gather.result p.loop.i (sixOctets k.lacks.result) h l k.lacks.ensures g.gather.ensures in
+    let t = tested os g.gather.result p.loop.i (six_octets k.lacks.result) h l k.lacks.ensures g.gather.ensures in
     sym (first-hit (failing os) (λ k. k) 8 8 p.loop.i l (t ∙ ap not (ne_eqb g.gather.result 0 c.if3.true)))
     ∙ p.loop.invariant.1 ∙ whole os h
 
@@ -97,7 +97,7 @@ loop-again c =
     let k = p.before.before.before in
     let os = k.before.before.before.args.octets.now in
     let h = k.before.if1.false in
-    let t = tested os g.gather.result p.loop.i (sixOctets k.lacks.result) h l k.lacks.ensures g.gather.ensures in (
+    let t = tested os g.gather.result p.loop.i (six_octets k.lacks.result) h l k.lacks.ensures g.gather.ensures in (
       omega arith,
       sym (first_next (failing os) (λ k. k) 8 8 p.loop.i l (t ∙ ap not (eq-eqb g.gather.result 0 c.if3.false)))
           ∙ p.loop.invariant.1,

@@ -8,14 +8,14 @@ use Rattle.bits.specs.Row.{Below}
 use Rattle.answer.specs.Answer.{Answer.accepted}
 use Rattle.answer.specs.Demand.Stops.{fails}
 use Rattle.answer.proofs.Chains.{stopped}
-use Rattle.codes.specs.Inner.{mendAnswer, octetsAfter}
+use Rattle.codes.specs.Inner.{mend_answer, octets_after}
 use Rattle.codes.proofs.CheckLaws.{clean-lacks}
 use Rattle.codes.proofs.MendLaws.{clean-hope, clean-octets, clean-count, all_done, whole, after}
 use Rattle.codes.proofs.mend.Statement.{statement}
 use Rattle.codes.proofs.mend.Tie as tie
 
 returns : tie.Need-returns
-unfolding mendAnswer octetsAfter
+unfolding mend_answer octets_after
 returns c =
     let e = ne_eqb _ 30 c.if1.true in
     (sym (stopped _ (fails e)), simp e)
@@ -39,7 +39,7 @@ returns-2 c =
     let z =
     clean-lacks os h s.c0 s.c1 s.c2 s.c3 s.c4 s.c5 p.lacks.ensures
     (eqb-true (s.c0 + s.c1 + s.c2 + s.c3 + s.c4 + s.c5) 0 (sym c.before.clean.ensures ∙ c.if2.true)) in
-    let a : accepted 0 ≡ mendAnswer os =
+    let a : accepted 0 ≡ mend_answer os =
     sym (ap accepted (clean-count os h b z)) ∙ whole os h (λ j l. clean-hope os h b z j l) in
     (a, sym (all_done os h b ∙ clean-octets os h b z) ∙ after os h (accepted 0) a)
 

@@ -12,11 +12,11 @@ use lib.Bits.{bit_xor}
 use Rattle.bits.specs.Row.{Below}
 use Rattle.bits.proofs.Tests.{order}
 use Rattle.bits.proofs.Beside.{same_or_not}
-use Rattle.bits.proofs.Lists.{length-listed, getD-listed}
+use Rattle.bits.proofs.Lists.{length-listed, get_or-listed}
 use Rattle.answer.specs.Answer.{Answer.accepted, Answer.refused}
 use Rattle.codes.specs.Lane.{repaired}
-use Rattle.codes.specs.Lanes.{lane_of, hopelessAt, mendedOctets, lanesApart}
-use Rattle.codes.specs.Inner.{syndrome, placeFor, sixOctets, mendedTo, mendAnswer}
+use Rattle.codes.specs.Lanes.{lane_of, hopeless_at, mended_octets, lanes_apart}
+use Rattle.codes.specs.Inner.{syndrome, place_for, six_octets, mended_to, mend_answer}
 use Rattle.codes.proofs.Syndrome.{syndrome-lt}
 use Rattle.codes.proofs.CheckLaws.{lane-lacks, lane-lt}
 use Rattle.codes.proofs.MendLaws.{none-lacking, one-lacking, too-much-lacking, apart-le, length-mended, none-mended, next-none, next_one, count_none, count-one, Passed, whole, halted, after}
@@ -26,7 +26,7 @@ use Rattle.codes.proofs.mend_by.Tie as tie
 
 abbrev invariant-loop : tie.invariant-loop
 invariant-loop octets₀ s table n₀ i₀ octets n i =
-    (i ≤ 8) × (octets ≡ mendedTo i octets₀) × (n ≡ lanesApart i (mendedOctets octets₀) octets₀) × Passed octets₀ i
+    (i ≤ 8) × (octets ≡ mended_to i octets₀) × (n ≡ lanes_apart i (mended_octets octets₀) octets₀) × Passed octets₀ i
 
 abbrev decreases-loop : tie.decreases-loop
 decreases-loop octets₀ s table n₀ i₀ octets n i = 8 - i
@@ -46,7 +46,7 @@ module _ (p : tie.At-loop invariant-loop decreases-loop) where
   os = begun.args.octets.now
 
   abbrev s : List ℕ
-  s = sixOctets begun.args.s
+  s = six_octets begun.args.s
 
   abbrev table : List ℕ
   table = p.before.places.result
@@ -64,7 +64,7 @@ module _ (p : tie.At-loop invariant-loop decreases-loop) where
   long-now = ap length p.loop.inv.1 ∙ length-mended os long bounded i
 
   long-table : length table ≡ 64
-  long-table = ap length p.before.places.ensures ∙ length-listed 0 64 placeFor
+  long-table = ap length p.before.places.ensures ∙ length-listed 0 64 place_for
 
   -- a lane more, which lacks g
   module _ (g : ℕ) (l : i < 8) (q : g ≡ lane_of i s) where
@@ -80,11 +80,11 @@ module _ (p : tie.At-loop invariant-loop decreases-loop) where
     small : g < 64
     small = rw lacks-g (syndrome-lt lane (lane-lt os long i))
 
-    k-place : k ≡ placeFor (syndrome lane)
+    k-place : k ≡ place_for (syndrome lane)
     k-place =
-        ap (λ (t : List ℕ). get_or t g 0) p.before.places.ensures ∙ getD-listed 64 placeFor g 0 small ∙ ap placeFor lacks-g
+        ap (λ (t : List ℕ). get_or t g 0) p.before.places.ensures ∙ get_or-listed 64 place_for g 0 small ∙ ap place_for lacks-g
 
-    hopeless : (g ≡ 0 → ⊥) → 30 ≤ k → refused 15 i ≡ mendAnswer os
+    hopeless : (g ≡ 0 → ⊥) → 30 ≤ k → refused 15 i ≡ mend_answer os
     hopeless n f =
         halted os long i l p.loop.inv.3
         (lane-refused os i 15 0 (too-much-lacking lane (lane-lt os long i) (λ e. n (lacks-g ∙ e)) (rw (← k-place) f)))
@@ -99,13 +99,13 @@ module _ (p : tie.At-loop invariant-loop decreases-loop) where
 
     going_on : (y : ℕ) → repaired lane ≡ accepted y → Passed os (i + 1)
     going_on y r j m =
-        ⊎_elim (λ (q : i ≡ j). subst (λ (t : ℕ). hopelessAt os t ≡ false) q (lane-given os i y r).0)
+        ⊎_elim (λ (q : i ≡ j). subst (λ (t : ℕ). hopeless_at os t ≡ false) q (lane-given os i y r).0)
         (λ (q : i ≡ j → ⊥). p.loop.inv.3 j (sooner j i m q)) (same_or_not i j)
 
     -- what holds of the octets and the count after it
     abbrev Done : List ℕ → ℕ → Type 0
     Done octets n =
-        (i + 1 ≤ 8) × (octets ≡ mendedTo (i + 1) os) × (n ≡ lanesApart (i + 1) (mendedOctets os) os) × Passed os (i + 1)
+        (i + 1 ≤ 8) × (octets ≡ mended_to (i + 1) os) × (n ≡ lanes_apart (i + 1) (mended_octets os) os) × Passed os (i + 1)
 
     passed : g ≡ 0 → (octets : List ℕ) (n : ℕ) → octets ≡ p.loop.octets → n ≡ p.loop.n → Done octets n
     passed z octets n eo en =
@@ -133,7 +133,7 @@ places-requires : tie.Need-places-requires invariant-loop decreases-loop
 places-requires c κs = search rules
 
 loop-holds : tie.Need-loop-init invariant-loop decreases-loop
-unfolding lanesApart
+unfolding lanes_apart
 loop-holds c =
     let k = c.before in (
       omega arith,
@@ -187,7 +187,7 @@ slice-write-octets c = omega (arith, long-now (at c.before.before.before.before)
 add-n : tie.Need-overflow-add-n invariant-loop decreases-loop
 add-n c =
     let p = at c.before.before.before.before in
-    omega (arith, p.loop.inv.2, apart-le (i p) (mendedOctets (os p)) (os p))
+    omega (arith, p.loop.inv.2, apart-le (i p) (mended_octets (os p)) (os p))
 
 add-i : tie.Need-overflow-add-i invariant-loop decreases-loop
 add-i c = omega arith
@@ -214,10 +214,10 @@ returns-2 : tie.Need-returns-2 invariant-loop decreases-loop
 returns-2 c =
     let p = c.before in
     let e : i p ≡ 8 = omega (arith, c.loop-test.false) in
-    let a : accepted p.loop.n ≡ mendAnswer (os p) =
-    ap accepted (p.loop.invariant.2 ∙ ap (λ (k : ℕ). lanesApart k (mendedOctets (os p)) (os p)) e)
+    let a : accepted p.loop.n ≡ mend_answer (os p) =
+    ap accepted (p.loop.invariant.2 ∙ ap (λ (k : ℕ). lanes_apart k (mended_octets (os p)) (os p)) e)
     ∙ whole (os p) (long p) (λ j l. p.loop.invariant.3 j (omega arith)) in
-    (a, p.loop.invariant.1 ∙ ap (λ (k : ℕ). mendedTo k (os p)) e ∙ after (os p) (long p) (accepted p.loop.n) a)
+    (a, p.loop.invariant.1 ∙ ap (λ (k : ℕ). mended_to k (os p)) e ∙ after (os p) (long p) (accepted p.loop.n) a)
 
 pub mend-by-spec : {M : Type 1} → statement M
 mend-by-spec =

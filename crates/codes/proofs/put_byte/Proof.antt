@@ -2,7 +2,7 @@
 use mathlib.Core.Path.{ap, ◌∙◌}
 use lib.ListN.{get_or, set}
 use lib.Bits.{bit_xor}
-use Rattle.codes.specs.Edit.{withByte}
+use Rattle.codes.specs.Edit.{with_byte}
 use Rattle.codes.proofs.EditLaws.{crcc-from-difference}
 use borrow.Author.Rules.{rules}
 use Rattle.codes.proofs.put_byte.Statement.{statement}
@@ -27,7 +27,7 @@ same_length : tie.Need-same-length
 same_length c = search rules
 
 returns : tie.Need-returns
-unfolding withByte
+unfolding with_byte
 returns c =
     let s = c.before.before.before.before in
     let status = s.args.status.now in

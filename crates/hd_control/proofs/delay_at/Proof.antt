@@ -1,7 +1,7 @@
 -- `hd_control::delay_at` meets its contract. Assumes nothing.
 use mathlib.Core.Path.{refl}
 use borrow.Author.Rules.{rules}
-use Rattle.hd_control.specs.Control.{delayAt}
+use Rattle.hd_control.specs.Control.{delay_at}
 use Rattle.hd_control.proofs.delay_at.Statement.{statement}
 use Rattle.hd_control.proofs.delay_at.Tie as tie
 
@@ -51,7 +51,7 @@ add-result-4 : tie.Need-overflow-add-result-4
 add-result-4 c = search rules
 
 returns : tie.Need-returns
-unfolding delayAt
+unfolding delay_at
 returns c = refl
 
 pub delay-at-spec : {M : Type 1} → statement M

@@ -7,7 +7,7 @@ use mir.Facts.{to_z-of_z}
 use Rattle.anc.specs.Word.{opposed}
 use Rattle.subframe.specs.Signed.{code_of}
 use Rattle.subframe.proofs.SignedLaws.{code_lt}
-use Rattle.hd_control.specs.Control.{delayNumber}
+use Rattle.hd_control.specs.Control.{delay_number}
 use Rattle.hd_control.proofs.delay_words.Statement.{statement}
 use Rattle.hd_control.proofs.delay_words.Tie as tie
 
@@ -54,7 +54,7 @@ returns c =
     let two = c.before in
     let one = two.before in
     let k = one.before in
-    let number : k.before.args.valid + k.code.result * 2 ≡ delayNumber k.before.args.valid k.before.args.delay =
+    let number : k.before.args.valid + k.code.result * 2 ≡ delay_number k.before.args.valid k.before.args.delay =
     ap (λ (x : ℕ). k.before.args.valid + x * 2) (tells k) in
     rw (
       one.nine.ensures ∙ ap opposed (again _),

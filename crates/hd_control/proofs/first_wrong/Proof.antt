@@ -8,15 +8,15 @@ use borrow.Author.Rules.{rules}
 use lib.ListN.{length, get_or}
 use Rattle.bits.proofs.Searches.{Left, left-first, left-next, left-hit, left-miss}
 use Rattle.anc.specs.declared.B8.{B8}
-use Rattle.anc.specs.Word.{rightBy, wrongAt}
+use Rattle.anc.specs.Word.{right_by, wrong_at}
 use Rattle.anc.proofs.Searched.{right-passes, wrong-fails}
-use Rattle.hd_control.specs.Control.{ruleOf}
-use Rattle.hd_control.specs.Inner.{firstWrongByRule}
+use Rattle.hd_control.specs.Control.{rule_of}
+use Rattle.hd_control.specs.Inner.{first_wrong_by_rule}
 use Rattle.hd_control.proofs.first_wrong.Statement.{statement}
 use Rattle.hd_control.proofs.first_wrong.Tie as tie
 
 abbrev wrong : List ℕ → ℕ → Bool
-wrong words i = wrongAt ruleOf words (3 + i)
+wrong words i = wrong_at rule_of words (3 + i)
 
 abbrev invariant-loop : tie.invariant-loop
 invariant-loop words i₀ i = Left (wrong words) 14 i
@@ -34,8 +34,8 @@ module _ (c : tie.After-right-by invariant-loop decreases-loop) where
   abbrev i : ℕ
   i = at.loop.i
 
-  tested : c.right_by.result ≡ rightBy (ruleOf (3 + i)) (get_or words (3 + i) 0)
-  tested = c.right_by.ensures ∙ ap (λ (b : B8). rightBy b (get_or words (3 + i) 0)) c.before.before.rule.ensures
+  tested : c.right_by.result ≡ right_by (rule_of (3 + i)) (get_or words (3 + i) 0)
+  tested = c.right_by.ensures ∙ ap (λ (b : B8). right_by b (get_or words (3 + i) 0)) c.before.before.rule.ensures
 
 loop-holds : tie.Need-loop-init invariant-loop decreases-loop
 loop-holds c = left-first (wrong c.before.args.words.now) 14
@@ -68,17 +68,17 @@ loop-again : tie.Need-loop-preserved invariant-loop decreases-loop
 loop-again c =
     let r = c.before in
     left-next (wrong (words r)) 14 (i r) r.before.before.before.loop-test.true
-    (right-passes ruleOf (words r) (3 + i r) (sym (tested r) ∙ c.if1.true)) (at r).loop.invariant
+    (right-passes rule_of (words r) (3 + i r) (sym (tested r) ∙ c.if1.true)) (at r).loop.invariant
 
 returns : tie.Need-returns invariant-loop decreases-loop
-unfolding firstWrongByRule
+unfolding first_wrong_by_rule
 returns c =
     let r = c.before in
     left-hit (wrong (words r)) 14 (i r) r.before.before.before.loop-test.true
-    (wrong-fails ruleOf (words r) (3 + i r) (sym (tested r) ∙ c.if1.false)) (at r).loop.invariant
+    (wrong-fails rule_of (words r) (3 + i r) (sym (tested r) ∙ c.if1.false)) (at r).loop.invariant
 
 returns-2 : tie.Need-returns-2 invariant-loop decreases-loop
-unfolding firstWrongByRule
+unfolding first_wrong_by_rule
 returns-2 c =
     let p = c.before in
     left-miss (wrong p.before.before.args.words.now) 14 p.loop.i c.loop-test.false p.loop.invariant

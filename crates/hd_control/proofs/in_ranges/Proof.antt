@@ -6,7 +6,7 @@ use Rattle.subframe.specs.Signed.{in_range}
 use Rattle.hd_control.specs.declared.Control.{Control}
 use borrow.Author.Rules.{rules}
 use borrow.Author.Tests.{le-leb, lt-leb}
-use Rattle.hd_control.specs.Write.{controlInRanges}
+use Rattle.hd_control.specs.Write.{control_in_ranges}
 use Rattle.hd_control.proofs.ControlLaws.{last-delay, first-fails}
 use Rattle.hd_control.proofs.in_ranges.Statement.{statement}
 use Rattle.hd_control.proofs.in_ranges.Tie as tie
@@ -22,35 +22,35 @@ module _ (d : tie.After-delay-fits) where
       at d.delay-fits.ensures
 
 returns : tie.Need-returns
-unfolding controlInRanges
+unfolding control_in_ranges
 returns c = simp (lt-leb _ _ c.if1.true)
 
 returns-2 : tie.Need-returns-2
-unfolding controlInRanges
+unfolding control_in_ranges
 returns-2 c = simp (le-leb _ _ c.before.before.if1.false, lt-leb _ _ c.if2.true)
 
 returns-3 : tie.Need-returns-3
-unfolding controlInRanges
+unfolding control_in_ranges
 returns-3 c = simp (le-leb _ _ c.before.before.before.before.if1.false, le-leb _ _ c.before.before.if2.false, lt-leb _ _ c.if3.true)
 
 returns-4 : tie.Need-returns-4
-unfolding controlInRanges
+unfolding control_in_ranges
 returns-4 c = simp (le-leb _ _ c.before.before.before.before.before.before.if1.false, le-leb _ _ c.before.before.before.before.if2.false, le-leb _ _ c.before.before.if3.false, lt-leb _ _ c.if4.true)
 
 returns-5 : tie.Need-returns-5
-unfolding controlInRanges
+unfolding control_in_ranges
 returns-5 c = simp (le-leb _ _ c.before.before.before.before.before.before.before.before.if1.false, le-leb _ _ c.before.before.before.before.before.before.if2.false, le-leb _ _ c.before.before.before.before.if3.false, le-leb _ _ c.before.before.if4.false, lt-leb _ _ c.if5.true)
 
 returns-6 : tie.Need-returns-6
-unfolding controlInRanges
+unfolding control_in_ranges
 returns-6 c = simp (le-leb _ _ c.before.before.before.before.before.before.before.before.before.before.if1.false, le-leb _ _ c.before.before.before.before.before.before.before.before.if2.false, le-leb _ _ c.before.before.before.before.before.before.if3.false, le-leb _ _ c.before.before.before.before.if4.false, le-leb _ _ c.before.before.if5.false, lt-leb _ _ c.if6.true)
 
 returns-7 : tie.Need-returns-7
-unfolding controlInRanges
+unfolding control_in_ranges
 returns-7 c = simp (le-leb _ _ c.before.before.before.before.before.before.before.before.before.before.before.before.if1.false, le-leb _ _ c.before.before.before.before.before.before.before.before.before.before.if2.false, le-leb _ _ c.before.before.before.before.before.before.before.before.if3.false, le-leb _ _ c.before.before.before.before.before.before.if4.false, le-leb _ _ c.before.before.before.before.if5.false, le-leb _ _ c.before.before.if6.false, lt-leb _ _ c.if7.true)
 
 returns-8 : tie.Need-returns-8
-unfolding controlInRanges
+unfolding control_in_ranges
 returns-8 c = simp (le-leb _ _ c.before.before.before.before.before.before.before.before.before.before.before.before.before.before.if1.false, le-leb _ _ c.before.before.before.before.before.before.before.before.before.before.before.before.if2.false, le-leb _ _ c.before.before.before.before.before.before.before.before.before.before.if3.false, le-leb _ _ c.before.before.before.before.before.before.before.before.if4.false, le-leb _ _ c.before.before.before.before.before.before.if5.false, le-leb _ _ c.before.before.before.before.if6.false, le-leb _ _ c.before.before.if7.false, lt-leb _ _ c.if8.true)
 
 delay-fits-requires : tie.Need-delay-fits-requires

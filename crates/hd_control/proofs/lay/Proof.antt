@@ -3,8 +3,8 @@ use mathlib.Core.Path.{◌≡◌}
 use borrow.Author.Rules.{rules}
 use mir.Syntax.{w32}
 use mir.Facts.{to_z-of_z}
-use Rattle.hd_control.specs.Control.{delayNumber}
-use Rattle.hd_control.specs.Inner.{threeWords, wordsOfDelay}
+use Rattle.hd_control.specs.Control.{delay_number}
+use Rattle.hd_control.specs.Inner.{three_words, words_of_delay}
 use Rattle.hd_control.proofs.ControlLaws.{words-laid}
 use Rattle.hd_control.proofs.lay.Statement.{statement}
 use Rattle.hd_control.proofs.lay.Tie as tie
@@ -56,10 +56,10 @@ returns c =
     let frame = rate.before.before.before in
     let did = frame.before.before in
     let start = did.before.before in
-    let a : threeWords first.delay-words.result ≡ wordsOfDelay (delayNumber start.args.c.valid12 start.args.c.delay12) =
+    let a : three_words first.delay-words.result ≡ words_of_delay (delay_number start.args.c.valid12 start.args.c.delay12) =
     rw (to_z-of_z {w = w32} {z = start.args.c.delay12} (record { sfits = first.before.struct_told.given.1.1.1.1.1.1.0.1 }))
     at first.delay-words.ensures in
-    let b : threeWords c.delay-words2.result ≡ wordsOfDelay (delayNumber start.args.c.valid34 start.args.c.delay34) =
+    let b : three_words c.delay-words2.result ≡ words_of_delay (delay_number start.args.c.valid34 start.args.c.delay34) =
     rw (to_z-of_z {w = w32} {z = start.args.c.delay34} (record { sfits = c.before.struct-told2.given.1.1.1.1.1.1.1.1.0.1 }))
     at c.delay-words2.ensures in
     words-laid start.args.c start.requires first.delay-words.result c.delay-words2.result _ _ _ _ did.word.ensures

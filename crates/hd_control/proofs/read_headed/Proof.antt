@@ -6,15 +6,15 @@ use Prim.Native.Nat.{ℕ, ◌+◌}
 use native.Mathlib.Omega.{arith}
 use borrow.Author.Rules.{rules}
 use Rattle.answer.specs.Answer.{Answer.accepted}
-use Rattle.answer.specs.Demand.{Demand.findsNone, Met, ◌&◌}
+use Rattle.answer.specs.Demand.{Demand.finds_none, Met, ◌&◌}
 use Rattle.answer.specs.Demand.Stops.{fails, later}
 use Rattle.answer.proofs.Chains.{passing, stopped}
-use Rattle.anc.specs.Word.{wrongAt}
-use Rattle.anc.specs.Enclosed.{sumStands}
+use Rattle.anc.specs.Word.{wrong_at}
+use Rattle.anc.specs.Enclosed.{sum_stands}
 use Rattle.anc.proofs.Searched.{counted-found, counted_none}
 use Rattle.anc.proofs.Enclosing.{sum-stands, sum-fails}
-use Rattle.hd_control.specs.Control.{ruleOf}
-use Rattle.hd_control.specs.Inner.{firstWrongByRule, headedRead}
+use Rattle.hd_control.specs.Control.{rule_of}
+use Rattle.hd_control.specs.Inner.{first_wrong_by_rule, headed_read}
 use Rattle.hd_control.proofs.read_headed.Statement.{statement}
 use Rattle.hd_control.proofs.read_headed.Tie as tie
 
@@ -23,16 +23,16 @@ module _ (e : tie.Else1) where
   abbrev ws : List ℕ
   ws = e.before.before.before.args.words.now
 
-  worded : Met (findsNone 14 (wrongAt ruleOf ws) 3 14)
-  unfolding firstWrongByRule
+  worded : Met (finds_none 14 (wrong_at rule_of ws) 3 14)
+  unfolding first_wrong_by_rule
   worded =
-      counted_none (wrongAt ruleOf ws) 3 14 e.before.first-wrong.result e.before.first-wrong.ensures e.if1.left
+      counted_none (wrong_at rule_of ws) 3 14 e.before.first-wrong.result e.before.first-wrong.ensures e.if1.left
 
 module _ (e : tie.Else2) where
   abbrev words : List ℕ
   words = ws e.before.before.before.before
 
-  summed : sumStands 14 words ≡ true
+  summed : sum_stands 14 words ≡ true
   summed = sum-stands 14 words (e.if2.left ∙ e.before.check-word.ensures)
 
 first-wrong-requires : tie.Need-first-wrong-requires
@@ -45,10 +45,10 @@ add-t7 : tie.Need-overflow-add-t7
 add-t7 c = search rules
 
 returns : tie.Need-returns
-unfolding headedRead firstWrongByRule
+unfolding headed_read first_wrong_by_rule
 returns c =
     let k = c.before in
-    sym (stopped _ (counted-found (wrongAt ruleOf k.before.before.args.words.now) 3 14 k.first-wrong.result k.first-wrong.ensures
+    sym (stopped _ (counted-found (wrong_at rule_of k.before.before.args.words.now) 3 14 k.first-wrong.result k.first-wrong.ensures
     c.if1.true))
 
 shared-slice-read-if2 : tie.Need-shared-slice-read-if2
@@ -67,7 +67,7 @@ check-word-requires : tie.Need-check-word-requires
 check-word-requires c κs = search rules
 
 returns-2 : tie.Need-returns-2
-unfolding headedRead
+unfolding headed_read
 returns-2 c =
     let k = c.before in
     let e = k.before.before.before in
@@ -77,7 +77,7 @@ wrong-state-requires : tie.Need-wrong-state-requires
 wrong-state-requires c κs = search rules
 
 returns-3 : tie.Need-returns-3
-unfolding headedRead
+unfolding headed_read
 returns-3 c =
     let k = c.before in
     let e = k.before in
@@ -87,7 +87,7 @@ take-requires : tie.Need-take-requires
 take-requires c κs = search rules
 
 returns-4 : tie.Need-returns-4
-unfolding headedRead
+unfolding headed_read
 returns-4 c =
     let k = c.before.before in
     let e = k.before in

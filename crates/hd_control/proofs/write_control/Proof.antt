@@ -10,11 +10,11 @@ use lib.ListN.{length}
 use Rattle.answer.specs.Demand.{◌&◌}
 use Rattle.answer.specs.Demand.Stops.{fails, later}
 use Rattle.answer.proofs.Residues.{shows-refusal, shows-acceptance}
-use Rattle.anc.specs.Enclosed.{wordsBy, enclosed}
-use Rattle.anc.specs.Inner.{laidOut}
-use Rattle.anc.proofs.Enclosing.{length-words, length-enclosed, laid_out}
-use Rattle.hd_control.specs.Control.{ruleOf, misused, rateReserved, controlValues, controlPacket}
-use Rattle.hd_control.specs.Write.{controlInRanges, writeAnswer}
+use Rattle.anc.specs.Enclosed.{words_by, enclosed}
+use Rattle.anc.specs.Inner.{laid_out}
+use Rattle.anc.proofs.Enclosing.{length-words, length-enclosed, laid_out_lem}
+use Rattle.hd_control.specs.Control.{rule_of, misused, rate_reserved, control_values, control_packet}
+use Rattle.hd_control.specs.Write.{control_in_ranges, write_answer}
 use Rattle.hd_control.specs.declared.Control.{Control}
 use Rattle.hd_control.proofs.ControlLaws.{ranges, fourteen, packet-size, packet-of}
 use Rattle.hd_control.proofs.write_control.Statement.{statement}
@@ -34,11 +34,11 @@ module _ (t : tie.Then2) where
   room : length old ≡ 18
   room = t.before.before.if1.left
 
-  in-range : controlInRanges fields ≡ true
+  in-range : control_in_ranges fields ≡ true
   in-range = sym t.before.in-ranges.ensures ∙ t.if2.taken
 
 returns : tie.Need-returns
-unfolding writeAnswer
+unfolding write_answer
 returns c = shows-refusal _ _ _ _ (fails (ne_eqb _ 18 c.if1.true))
 
 in-ranges-requires : tie.Need-in-ranges-requires
@@ -48,7 +48,7 @@ misuses-requires : tie.Need-misuses-requires
 misuses-requires c κs = search rules
 
 returns-2 : tie.Need-returns-2
-unfolding writeAnswer
+unfolding write_answer
 returns-2 c =
     let m = c.before in
     let t = m.before in
@@ -59,7 +59,7 @@ is-reserved-requires : tie.Need-is-reserved-requires
 is-reserved-requires c κs = search rules
 
 returns-3 : tie.Need-returns-3
-unfolding writeAnswer
+unfolding write_answer
 returns-3 c =
     let s = c.before in
     let e = s.before in
@@ -84,7 +84,7 @@ same_length : tie.Need-same-length
 same_length c = search rules
 
 returns-4 : tie.Need-returns-4
-unfolding writeAnswer
+unfolding write_answer
 returns-4 c =
     let x = c.before.before in
     let l = x.before.before.before in
@@ -93,17 +93,17 @@ returns-4 c =
     let e = s.before in
     let m = e.before in
     let t = m.before in
-    let ws = wordsBy ruleOf 3 (controlValues (fields t)) in
-    let n : length ws ≡ 14 = length-words ruleOf 3 (controlValues (fields t)) ∙ fourteen (fields t) in
+    let ws = words_by rule_of 3 (control_values (fields t)) in
+    let n : length ws ≡ 14 = length-words rule_of 3 (control_values (fields t)) ∙ fourteen (fields t) in
     shows-acceptance _ _ _ _ _
     (eq-eqb _ 18 (room t) & in-range t & ap not (sym m.misuses.ensures ∙ e.if3.false)
     & ap not (sym s.is-reserved.ensures ∙ four.if4.false) & tt)
     (packet-size (fields t) ∙ sym (room t))
-    (x.enclose.ensures ∙ ap (λ (w : List ℕ). laidOut w (old t)) l.lay.ensures
-    ∙ laid_out ws (old t) (room t ∙ ap (λ (k : ℕ). 4 + k) (sym n)) ∙ packet-of (fields t))
+    (x.enclose.ensures ∙ ap (λ (w : List ℕ). laid_out w (old t)) l.lay.ensures
+    ∙ laid_out_lem ws (old t) (room t ∙ ap (λ (k : ℕ). 4 + k) (sym n)) ∙ packet-of (fields t))
 
 returns-5 : tie.Need-returns-5
-unfolding writeAnswer
+unfolding write_answer
 returns-5 c =
     let k = c.before in
     shows-refusal _ _ _ _ (later (eq-eqb _ 18 k.before.if1.false) (fails (sym k.in-ranges.ensures ∙ c.if2.false)))

@@ -7,19 +7,19 @@ use native.Mathlib.Omega.{arith}
 use borrow.Author.Rules.{rules}
 use borrow.Author.Tests.{eq-eqb, ne_eqb}
 use lib.ListN.{length, replicate}
-use Rattle.answer.specs.Demand.{Demand.findsNone, Met, ◌&◌}
+use Rattle.answer.specs.Demand.{Demand.finds_none, Met, ◌&◌}
 use Rattle.answer.specs.Demand.Stops.{fails, later}
 use Rattle.answer.proofs.Chains.{place_found, none_found}
 use Rattle.answer.proofs.Residues.{shows-refusal, shows-acceptance}
-use Rattle.codes.specs.Inner.{withChecks}
+use Rattle.codes.specs.Inner.{with_checks}
 use Rattle.codes.proofs.RepairedLanes.{checked}
-use Rattle.hd_packet.specs.Packet.{dataOctets, oddBody}
-use Rattle.hd_packet.specs.Inner.{packetLaid}
+use Rattle.hd_packet.specs.Packet.{data_octets, odd_body}
+use Rattle.hd_packet.specs.Inner.{packet_laid}
 use Rattle.hd_packet.proofs.Laid.{length-data, data-of-four}
 use Rattle.hd_packet.proofs.PacketLaws.{laid}
-use Rattle.hd_write.specs.Write.{inRanges, lowBody, writeAnswer}
-use Rattle.hd_write.specs.Inner.{firstOdd, firstLow}
-use Rattle.hd_write.proofs.WriteLaws.{ranges, writtenOctets, length-written, packet-of-octets, packet-size}
+use Rattle.hd_write.specs.Write.{in_ranges, low_body, write_answer}
+use Rattle.hd_write.specs.Inner.{first_odd, first_low}
+use Rattle.hd_write.proofs.WriteLaws.{ranges, written_octets, length-written, packet-of-octets, packet-size}
 use Rattle.hd_write.proofs.write_packet.Statement.{statement}
 use Rattle.hd_write.proofs.write_packet.Tie as tie
 
@@ -31,11 +31,11 @@ module _ (s : tie.Start) where
   old = s.args.words.now
 
 returns : tie.Need-returns
-unfolding writeAnswer
+unfolding write_answer
 returns c = shows-refusal _ _ _ _ (fails (ne_eqb _ 4 c.if1.true))
 
 returns-2 : tie.Need-returns-2
-unfolding writeAnswer
+unfolding write_answer
 returns-2 c = shows-refusal _ _ _ _ (later (eq-eqb _ 4 c.before.if1.false) (fails (ne_eqb _ 31 c.if2.true)))
 
 in-ranges-requires : tie.Need-in-ranges-requires
@@ -52,12 +52,12 @@ module _ (t : tie.Then3) where
   room : length (old start) ≡ 31
   room = t.before.before.if2.left
 
-  in-range : inRanges start.args.f ≡ true
+  in-range : in_ranges start.args.f ≡ true
   in-range = sym t.before.in-ranges.ensures ∙ t.if3.taken
 
-  none-odd : (o : ℕ) → o ≡ firstOdd (bodies start) → 4 ≤ o → Met (findsNone 9 (oddBody (bodies start)) 0 (length (bodies start)))
-  unfolding firstOdd
-  none-odd o e h = none_found (oddBody (bodies start)) (length (bodies start)) o e (omega (arith, four))
+  none-odd : (o : ℕ) → o ≡ first_odd (bodies start) → 4 ≤ o → Met (finds_none 9 (odd_body (bodies start)) 0 (length (bodies start)))
+  unfolding first_odd
+  none-odd o e h = none_found (odd_body (bodies start)) (length (bodies start)) o e (omega (arith, four))
 
 first-odd-requires : tie.Need-first-odd-requires
 first-odd-requires c κs = search rules
@@ -66,14 +66,14 @@ cast-t11 : tie.Need-overflow-cast-t11
 cast-t11 c = search rules
 
 returns-3 : tie.Need-returns-3
-unfolding writeAnswer firstOdd
+unfolding write_answer first_odd
 returns-3 c =
     let o = c.before in
     let t = o.before in
     let bs = bodies (start t) in
     shows-refusal _ _ _ _
     (later (eq-eqb _ 4 (four t)) (later (eq-eqb _ 31 (room t)) (later (in-range t)
-    (place_found (oddBody bs) (length bs) o.first-odd.result o.first-odd.ensures (omega (arith, four t))))))
+    (place_found (odd_body bs) (length bs) o.first-odd.result o.first-odd.ensures (omega (arith, four t))))))
 
 first-low-requires : tie.Need-first-low-requires
 first-low-requires c κs = search rules
@@ -82,7 +82,7 @@ cast-t12 : tie.Need-overflow-cast-t12
 cast-t12 c = search rules
 
 returns-4 : tie.Need-returns-4
-unfolding writeAnswer firstLow
+unfolding write_answer first_low
 returns-4 c =
     let l = c.before in
     let o = l.before.before in
@@ -91,7 +91,7 @@ returns-4 c =
     shows-refusal _ _ _ _
     (later (eq-eqb _ 4 (four t)) (later (eq-eqb _ 31 (room t)) (later (in-range t)
     (later (none-odd t o.first-odd.result o.first-odd.ensures l.before.if4.false)
-    (place_found (lowBody bs) (length bs) l.first-low.result l.first-low.ensures (omega (arith, four t)))))))
+    (place_found (low_body bs) (length bs) l.first-low.result l.first-low.ensures (omega (arith, four t)))))))
 
 shared-slice-read-lay-data : tie.Need-shared-slice-read-lay-data
 shared-slice-read-lay-data c = search rules
@@ -126,7 +126,7 @@ same_length : tie.Need-same-length
 same_length c = search rules
 
 returns-5 : tie.Need-returns-5
-unfolding writeAnswer firstLow
+unfolding write_answer first_low
 returns-5 c =
     let e = c.before.before.before.before.before.before.before.before.before.before.before.before.before in
     let l = e.before in
@@ -140,17 +140,17 @@ returns-5 c =
     shows-acceptance _ _ _ _ _
     (eq-eqb _ 4 (four t) & eq-eqb _ 31 (room t) & in-range t
     & none-odd t o.first-odd.result o.first-odd.ensures l.before.if4.false
-    & none_found (lowBody bs) (length bs) l.first-low.result l.first-low.ensures (omega (arith, four t, e.if5.false)) & tt)
+    & none_found (low_body bs) (length bs) l.first-low.result l.first-low.ensures (omega (arith, four t, e.if5.false)) & tt)
     (packet-size a.f bs ∙ sym (room t))
     (p.lay-packet.ensures
-    ∙ ap (λ (os : List ℕ). packetLaid os a.words.now)
+    ∙ ap (λ (os : List ℕ). packet_laid os a.words.now)
     (f.fill-checks.ensures
-    ∙ ap withChecks (d.lay-data.ensures ∙ ap (λ (os : List ℕ). os ++ replicate 6 0) (data-of-four a.f bs))
-    ∙ checked (dataOctets a.f bs) (replicate 6 0) (length-data a.f bs) refl)
-    ∙ laid (writtenOctets a.f bs) a.words.now (length-written a.f bs) (room t) ∙ sym (packet-of-octets a.f bs))
+    ∙ ap with_checks (d.lay-data.ensures ∙ ap (λ (os : List ℕ). os ++ replicate 6 0) (data-of-four a.f bs))
+    ∙ checked (data_octets a.f bs) (replicate 6 0) (length-data a.f bs) refl)
+    ∙ laid (written_octets a.f bs) a.words.now (length-written a.f bs) (room t) ∙ sym (packet-of-octets a.f bs))
 
 returns-6 : tie.Need-returns-6
-unfolding writeAnswer
+unfolding write_answer
 returns-6 c =
     let k = c.before in
     shows-refusal _ _ _ _

@@ -7,8 +7,8 @@ use Rattle.answer.specs.Demand.{◌&◌}
 use Rattle.answer.specs.Demand.Stops.{fails}
 use Rattle.answer.proofs.Chains.{passing, stopped}
 use Rattle.status.proofs.Lossless.{nothing-is-consumer}
-use Rattle.lampcoil.specs.Status.{meaningAnswer}
-use Rattle.lampcoil.specs.Told.{meaningLaid}
+use Rattle.lampcoil.specs.Status.{meaning_answer}
+use Rattle.lampcoil.specs.Told.{meaning_laid}
 use Rattle.lampcoil.proofs.lampcoil_status_read.Statement.{statement}
 use Rattle.lampcoil.proofs.lampcoil_status_read.Tie as tie
 
@@ -19,10 +19,10 @@ meaning-requires : tie.Need-meaning-requires
 meaning-requires c κs = search rules
 
 returns : tie.Need-returns
-unfolding meaningAnswer
+unfolding meaning_answer
 returns c =
     rw (stopped _ (fails (ne_eqb _ 24 c.before.before.if1.true)))
-    (c.meaning.ensures ∙ ap (meaningLaid 1) (c.before.meaning-numbers.ensures ∙ nothing-is-consumer))
+    (c.meaning.ensures ∙ ap (meaning_laid 1) (c.before.meaning-numbers.ensures ∙ nothing-is-consumer))
 
 shared-slice-read-meaning-numbers : tie.Need-shared-slice-read-meaning-numbers
 shared-slice-read-meaning-numbers c = search rules
@@ -40,10 +40,10 @@ meaning-requires-2 : tie.Need-meaning-requires-2
 meaning-requires-2 c κs = search rules
 
 returns-2 : tie.Need-returns-2
-unfolding meaningAnswer
+unfolding meaning_answer
 returns-2 c =
     rw (passing _ _ (eq-eqb _ 24 c.before.before.before.before.before.if1.false & tt))
-    (c.meaning2.ensures ∙ ap (meaningLaid 0) c.before.meaning-numbers2.ensures)
+    (c.meaning2.ensures ∙ ap (meaning_laid 0) c.before.meaning-numbers2.ensures)
 
 pub lampcoil-status-read-spec : {M : Type 1} → statement M
 lampcoil-status-read-spec =

@@ -10,8 +10,8 @@ use Rattle.answer.specs.Answer.{Answer.accepted}
 use Rattle.answer.specs.Demand.{◌&◌}
 use Rattle.answer.specs.Demand.Stops.{fails, later}
 use Rattle.answer.proofs.Residues.{shows-refusal, shows-acceptance}
-use Rattle.leases.specs.Table.{heldBy, slots_of, granted}
-use Rattle.leases.specs.Calls.{tenant, request, askDemands, askAnswer}
+use Rattle.leases.specs.Table.{held_by, slots_of, granted}
+use Rattle.leases.specs.Calls.{tenant, request, ask_demands, ask_answer}
 use Rattle.leases.proofs.Holding.{length-granted}
 use Rattle.leases.proofs.Answering.{tenant-octet}
 use Rattle.leases.proofs.ask.Statement.{statement}
@@ -41,7 +41,7 @@ is-request-requires : tie.Need-is-request-requires
 is-request-requires c κs = search rules
 
 returns : tie.Need-returns
-unfolding askAnswer
+unfolding ask_answer
 returns c =
     let p = c.before in
     shows-refusal _ _ _ _ (later (one p) (later (some p) (fails (ne_eqb _ _ c.if3.true))))
@@ -53,12 +53,12 @@ same_length : tie.Need-same-length
 same_length c = search rules
 
 returns-2 : tie.Need-returns-2
-unfolding askAnswer
+unfolding ask_answer
 returns-2 c =
     let e = c.before.before.before in
     let p = e.before in
     shows-refusal _ _ _ _ (later (one p) (later (some p) (later (eq-eqb _ _ e.if3.false)
-    (fails (lt-leb (n p) (heldBy 0 (table p)) (omega (arith, c.before.count_of.ensures, c.if4.true)))))))
+    (fails (lt-leb (n p) (held_by 0 (table p)) (omega (arith, c.before.count_of.ensures, c.if4.true)))))))
 
 cast-grant : tie.Need-overflow-cast-grant
 cast-grant c = let p = c.before.before.before.before.before in omega (arith, tenant-octet (t p) (one p))
@@ -78,26 +78,26 @@ same-length-2 : tie.Need-same-length-2
 same-length-2 c = search rules
 
 returns-3 : tie.Need-returns-3
-unfolding askAnswer
+unfolding ask_answer
 returns-3 c =
     let g = c.before.before.before.before in
     let f = g.before.before in
     let e = f.before.before.before in
     let p = e.before in
     let a =
-    shows-acceptance (slots_of (t p)) (λ (l : List ℕ). l) (granted (t p) (n p) (table p)) (table p) (askDemands (t p) (n p) (table p))
-    (one p & some p & eq-eqb _ _ e.if3.false & le-leb (n p) (heldBy 0 (table p)) (omega (arith, f.before.count_of.ensures, f.if4.false)) & tt)
+    shows-acceptance (slots_of (t p)) (λ (l : List ℕ). l) (granted (t p) (n p) (table p)) (table p) (ask_demands (t p) (n p) (table p))
+    (one p & some p & eq-eqb _ _ e.if3.false & le-leb (n p) (held_by 0 (table p)) (omega (arith, f.before.count_of.ensures, f.if4.false)) & tt)
     (length-granted (t p) (n p) (table p)) g.grant.ensures in
     (ap accepted (c.slots-of.ensures ∙ ap (slots_of (t p)) g.grant.ensures) ∙ a.0, a.1)
 
 returns-4 : tie.Need-returns-4
-unfolding askAnswer
+unfolding ask_answer
 returns-4 c =
     let k = c.before.before in
     shows-refusal _ _ _ _ (later (sym k.before.is-tenant.ensures ∙ k.if1.true) (fails (sym c.before.is-request.ensures ∙ c.if2.false)))
 
 returns-5 : tie.Need-returns-5
-unfolding askAnswer
+unfolding ask_answer
 returns-5 c = shows-refusal _ _ _ _ (fails (sym c.before.is-tenant.ensures ∙ c.if1.false))
 
 pub ask-spec : {M : Type 1} → statement M

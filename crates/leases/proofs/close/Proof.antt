@@ -11,7 +11,7 @@ use Rattle.answer.specs.Demand.{Stops, AllMet, ◌&◌}
 use Rattle.answer.specs.Demand.Stops.{fails, later}
 use Rattle.answer.proofs.Residues.{shows-refusal, shows-acceptance}
 use Rattle.leases.specs.Table.{closed}
-use Rattle.leases.specs.Calls.{leasedCount, closeDemands, closeAnswer, closeTable, movesList, closeMoves}
+use Rattle.leases.specs.Calls.{leased_count, close_demands, close_answer, close_table, moves_list, close_moves}
 use Rattle.leases.proofs.Closing.{length-closed}
 use Rattle.leases.proofs.MoveTurns.{cleared-table, cleared-moves}
 use Rattle.leases.proofs.Answering.{length-list}
@@ -19,13 +19,13 @@ use Rattle.leases.proofs.close.Statement.{statement}
 use Rattle.leases.proofs.close.Tie as tie
 
 -- a way out by a demand that is not met
-refuses : (table old : List ℕ) {number place : ℕ} → Stops (closeDemands (length old) table) number place
-    → (refused number place ≡ mapped leasedCount (closeAnswer (length old) table))
-    × ((table ≡ closeTable (length old) table) × (old ≡ closeMoves table old))
-unfolding closeAnswer
+refuses : (table old : List ℕ) {number place : ℕ} → Stops (close_demands (length old) table) number place
+    → (refused number place ≡ mapped leased_count (close_answer (length old) table))
+    × ((table ≡ close_table (length old) table) × (old ≡ close_moves table old))
+unfolding close_answer
 refuses table old stop =
-    let a = shows-refusal leasedCount closed table table stop in
-    let b = shows-refusal leasedCount movesList table old stop in
+    let a = shows-refusal leased_count closed table table stop in
+    let b = shows-refusal leased_count moves_list table old stop in
     (a.0, (a.1, b.1))
 
 returns : tie.Need-returns
@@ -60,7 +60,7 @@ same-length-2 : tie.Need-same-length-2
 same-length-2 c = search rules
 
 returns-3 : tie.Need-returns-3
-unfolding closeAnswer
+unfolding close_answer
 returns-3 c =
     let second = c.before.before in
     let first = second.before.before.before.before in
@@ -69,13 +69,13 @@ returns-3 c =
     let s = e.before.before.before.before in
     let table : List ℕ = s.args.table.now in
     let old : List ℕ = s.args.moves.now in
-    let ds = closeDemands (length old) table in
+    let ds = close_demands (length old) table in
     let met : AllMet ds = eq-eqb _ _ e.before.if1.false & eq-eqb _ _ e.if2.false & tt in
     let a =
-    shows-acceptance leasedCount closed table table ds met (length-closed table)
+    shows-acceptance leased_count closed table table ds met (length-closed table)
     (first.zero-from.ensures ∙ cleared-table m.move_down.ensures (omega arith)) in
     let b =
-    shows-acceptance leasedCount movesList table old ds met (length-list table e.before.if1.false ∙ sym e.if2.false)
+    shows-acceptance leased_count moves_list table old ds met (length-list table e.before.if1.false ∙ sym e.if2.false)
     (second.zero-from2.ensures ∙ cleared-moves m.move_down.ensures (omega arith) (omega arith)) in
     (ap accepted m.move_down.ensures.as_many ∙ a.0, (a.1, b.1))
 

@@ -10,26 +10,26 @@ use lib.ListN.{length, get_or, drop, drop_of_length-le}
 use lib.Seq.{drop-cons}
 use Rattle.bits.specs.Row.{digit, count}
 use Rattle.bits.proofs.Digits.{digit_lt}
-use Rattle.leases.specs.Table.{heldBy}
+use Rattle.leases.specs.Table.{held_by}
 use Rattle.leases.proofs.Holding.{held_more}
 use Rattle.leases.proofs.count_of.Statement.{statement}
 use Rattle.leases.proofs.count_of.Tie as tie
 
 abbrev invariant-loop : tie.invariant-loop
-invariant-loop table t n₀ i₀ n i = (i ≤ length table) × (n ≤ i) × (n + heldBy t (drop i table) ≡ heldBy t table)
+invariant-loop table t n₀ i₀ n i = (i ≤ length table) × (n ≤ i) × (n + held_by t (drop i table) ≡ held_by t table)
 
 abbrev decreases-loop : tie.decreases-loop
 decreases-loop table t n₀ i₀ n i = length table - i
 
 -- one slot more
-more : (t n i : ℕ) (table : List ℕ) → i < length table → n + heldBy t (drop i table) ≡ heldBy t table
-    → n + digit (eqb (get_or table i 0) t) + heldBy t (drop (i + 1) table) ≡ heldBy t table
+more : (t n i : ℕ) (table : List ℕ) → i < length table → n + held_by t (drop i table) ≡ held_by t table
+    → n + digit (eqb (get_or table i 0) t) + held_by t (drop (i + 1) table) ≡ held_by t table
 more t n i table h e =
-    rw add-one (omega (arith, ap (heldBy t) (drop-cons table i 0 h), held_more t (get_or table i 0) (drop (suc i) table)))
+    rw add-one (omega (arith, ap (held_by t) (drop-cons table i 0 h), held_more t (get_or table i 0) (drop (suc i) table)))
 
-none_left : (t n i : ℕ) (table : List ℕ) → length table ≤ i → n + heldBy t (drop i table) ≡ heldBy t table → n ≡ heldBy t table
-unfolding heldBy count
-none_left t n i table h e = omega (arith, ap (heldBy t) (drop_of_length-le table {i = i} h))
+none_left : (t n i : ℕ) (table : List ℕ) → length table ≤ i → n + held_by t (drop i table) ≡ held_by t table → n ≡ held_by t table
+unfolding held_by count
+none_left t n i table h e = omega (arith, ap (held_by t) (drop_of_length-le table {i = i} h))
 
 loop-holds : tie.Need-loop-init invariant-loop decreases-loop
 loop-holds c = search rules
@@ -59,7 +59,7 @@ loop-again c =
     let d = digit_lt (eqb (get_or a.table.now p.loop.i 0) a.t) in (
       omega arith,
       omega (arith, c.is-of.ensures, d),
-      ap (λ (x : ℕ). p.loop.n + x + heldBy a.t (drop (p.loop.i + 1) a.table.now)) c.is-of.ensures
+      ap (λ (x : ℕ). p.loop.n + x + held_by a.t (drop (p.loop.i + 1) a.table.now)) c.is-of.ensures
           ∙ more a.t p.loop.n p.loop.i a.table.now c.before.before.loop-test.true p.loop.invariant.2,
     )
 

@@ -6,7 +6,7 @@ use Prim.Native.Nat.{ℕ, ◌-◌}
 use native.Mathlib.Omega.{arith}
 use borrow.Author.Rules.{rules}
 use lib.ListN.{length, take, drop, replicate, length-drop}
-use Rattle.leases.specs.Inner.{zeroedFrom}
+use Rattle.leases.specs.Inner.{zeroed_from}
 use Rattle.leases.proofs.Turns.{Doing, all_done, changed}
 use Rattle.leases.proofs.zero_from.Statement.{statement}
 use Rattle.leases.proofs.zero_from.Tie as tie
@@ -15,13 +15,13 @@ abbrev zeros : List ℕ → List ℕ
 zeros l = replicate (length l) 0
 
 abbrev invariant-loop : tie.invariant-loop
-invariant-loop xs₀ at i₀ xs i = Doing zeros (zeroedFrom at xs₀) xs₀ xs i
+invariant-loop xs₀ at i₀ xs i = Doing zeros (zeroed_from at xs₀) xs₀ xs i
 
 abbrev decreases-loop : tie.decreases-loop
 decreases-loop xs₀ at i₀ xs i = length xs₀ - i
 
-at_first : (at : ℕ) (xs : List ℕ) → take at xs ++ zeros (drop at xs) ≡ zeroedFrom at xs
-unfolding zeroedFrom
+at_first : (at : ℕ) (xs : List ℕ) → take at xs ++ zeros (drop at xs) ≡ zeroed_from at xs
+unfolding zeroed_from
 at_first at xs = rw length-drop
 
 loop-holds : tie.Need-loop-init invariant-loop decreases-loop

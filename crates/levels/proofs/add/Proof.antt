@@ -11,15 +11,15 @@ use lib.IntN.{ℤ}
 use lib.ListN.{length}
 use Rattle.bits.proofs.Tests.{both_true}
 use Rattle.bits.proofs.Inverting.{not-not}
-use Rattle.answer.specs.Demand.{Demand.findsNone, Met, ◌&◌}
+use Rattle.answer.specs.Demand.{Demand.finds_none, Met, ◌&◌}
 use Rattle.answer.specs.Demand.Stops.{fails, later}
 use Rattle.answer.proofs.Chains.{place_found, none_found}
 use Rattle.answer.proofs.Residues.{shows-refusal, shows-acceptance}
-use Rattle.block.specs.Side.{sideLength}
+use Rattle.block.specs.Side.{side_length}
 use Rattle.block.specs.Check.{outside}
-use Rattle.levels.specs.Lines.{sheetSound, sheetJoined}
-use Rattle.levels.specs.Sheets.{Block, sheetOf}
-use Rattle.levels.specs.Calls.{Fit, hasRoom, asBlock, addAnswer}
+use Rattle.levels.specs.Lines.{sheet_sound, sheet_joined}
+use Rattle.levels.specs.Sheets.{Block, sheet_of}
+use Rattle.levels.specs.Calls.{Fit, has_room, as_block, add_answer}
 use Rattle.levels.specs.Inner.{block_lines}
 use Rattle.levels.specs.declared.figures.Figures.{Figures}
 use Rattle.levels.proofs.AtOnce.{one_of_two, one_of_three}
@@ -37,7 +37,7 @@ module _ (s : tie.Start) where
   samples = s.args.samples.now
 
   abbrev b : Block
-  b = asBlock samples s.args.side.now
+  b = as_block samples s.args.side.now
 
 -- the lengths
 module _ (t : tie.Else1) where
@@ -50,27 +50,27 @@ module _ (t : tie.Else1) where
   abbrev samples384 : Bool
   samples384 = eqb (length (samples start)) 384
 
-  abbrev sideRight : Bool
-  sideRight = eqb (length start.args.side.now) sideLength
+  abbrev side_right : Bool
+  side_right = eqb (length start.args.side.now) side_length
 
-  right-lengths : (lines20 && samples384 && sideRight) ≡ true
+  right-lengths : (lines20 && samples384 && side_right) ≡ true
   right-lengths = sym t.before.are-lengths.ensures ∙ sym (not-not t.before.are-lengths.result) ∙ ap not t.if1.left
 
   one : lines20 ≡ true
-  one = (both_true lines20 samples384 (both_true (lines20 && samples384) sideRight right-lengths).0).0
+  one = (both_true lines20 samples384 (both_true (lines20 && samples384) side_right right-lengths).0).0
 
   two : samples384 ≡ true
-  two = (both_true lines20 samples384 (both_true (lines20 && samples384) sideRight right-lengths).0).1
+  two = (both_true lines20 samples384 (both_true (lines20 && samples384) side_right right-lengths).0).1
 
-  three : sideRight ≡ true
-  three = (both_true (lines20 && samples384) sideRight right-lengths).1
+  three : side_right ≡ true
+  three = (both_true (lines20 && samples384) side_right right-lengths).1
 
 -- the sheet is accepted
 module _ (t : tie.Then2) where
   abbrev lengths : tie.Else1
   lengths = t.before.before.before
 
-  right : sheetSound (old (start lengths)) ≡ true
+  right : sheet_sound (old (start lengths)) ≡ true
   right = sym t.before.sound-sheet.ensures ∙ t.if2.taken
 
 -- no sample is out of range
@@ -81,7 +81,7 @@ module _ (t : tie.Else3) where
   abbrev from : tie.Start
   from = start (lengths accepted-sheet)
 
-  none : Met (findsNone 3 (outside (samples from)) 0 384)
+  none : Met (finds_none 3 (outside (samples from)) 0 384)
   none = none_found (outside (samples from)) 384 t.before.first-outside.result t.before.first-outside.ensures t.if3.left
 
   fit : Fit (samples from)
@@ -92,7 +92,7 @@ module _ (t : tie.Then4) where
   abbrev in-range : tie.Else3
   in-range = t.before.before.before
 
-  room : (hasRoom (old (from in-range)) 0 192 && hasRoom (old (from in-range)) 10 192) ≡ true
+  room : (has_room (old (from in-range)) 0 192 && has_room (old (from in-range)) 10 192) ≡ true
   room = sym t.before.room-for-block.ensures ∙ t.if4.taken
 
 -- the block's sheet
@@ -100,7 +100,7 @@ module _ (t : tie.After-lay-block) where
   abbrev fitting : tie.Else3
   fitting = in-range t.before
 
-  laid : t.lay-block.result ≡ sheetOf (b (from fitting) ∷ [])
+  laid : t.lay-block.result ≡ sheet_of (b (from fitting) ∷ [])
   laid =
       t.lay-block.ensures
       ∙ ap₂ (λ (f g : Figures). block_lines f g (from fitting).args.side.now) fitting.before.before.before.gather.ensures.0
@@ -111,7 +111,7 @@ are-lengths-requires : tie.Need-are-lengths-requires
 are-lengths-requires c κs = search rules
 
 returns : tie.Need-returns
-unfolding addAnswer
+unfolding add_answer
 returns c =
     let r = c.before.are-lengths in
     shows-refusal _ _ _ _ (one_of_three _ _ _ (sym r.ensures ∙ sym (not-not r.result) ∙ ap not c.if1.true))
@@ -136,7 +136,7 @@ same_length : tie.Need-same-length
 same_length c = search rules
 
 returns-2 : tie.Need-returns-2
-unfolding addAnswer
+unfolding add_answer
 returns-2 c =
     let p = c.before.before.before.before in
     let t = lengths p in
@@ -151,7 +151,7 @@ room-for-block-requires c κs = eqb-true _ 20 (one (lengths (accepted-sheet c.be
 lay-block-requires : tie.Need-lay-block-requires
 lay-block-requires c κs =
     let e = in-range c in
-    (eqb-true _ sideLength (three (lengths (accepted-sheet e))), e.before.before.before.gather.ensures.1, e.before.before.gather2.ensures.1)
+    (eqb-true _ side_length (three (lengths (accepted-sheet e))), e.before.before.before.gather.ensures.1, e.before.before.gather2.ensures.1)
 
 slice-aggregate-join-lines : tie.Need-slice-aggregate-join-lines
 slice-aggregate-join-lines c = search rules
@@ -164,14 +164,14 @@ join-lines-requires c κs =
       eqb-true _ 20 (one t),
       ap length (laid l) ∙ length-sheet (b (start t) ∷ []),
       right (accepted-sheet e),
-      ap sheetSound (laid l) ∙ sheet-one-sound (b (start t)) (fit e),
+      ap sheet_sound (laid l) ∙ sheet-one-sound (b (start t)) (fit e),
     )
 
 same-length-2 : tie.Need-same-length-2
 same-length-2 c = search rules
 
 returns-3 : tie.Need-returns-3
-unfolding addAnswer
+unfolding add_answer
 returns-3 c =
     let l = c.before.before.before.before in
     let e = fitting l in
@@ -179,14 +179,14 @@ returns-3 c =
     let t = lengths p in
     let r = both_true _ _ (room l.before) in
     shows-acceptance _ _ _ _ _ (one t & two t & three t & right p & none e & r.0 & r.1 & tt)
-    (length-joined (old (start t)) (sheetOf (b (start t) ∷ [])) ∙ sym (eqb-true _ 20 (one t)))
-    (c.before.join-lines.ensures ∙ ap (sheetJoined (old (start t))) (laid l))
+    (length-joined (old (start t)) (sheet_of (b (start t) ∷ [])) ∙ sym (eqb-true _ 20 (one t)))
+    (c.before.join-lines.ensures ∙ ap (sheet_joined (old (start t))) (laid l))
 
 same-length-3 : tie.Need-same-length-3
 same-length-3 c = search rules
 
 returns-4 : tie.Need-returns-4
-unfolding addAnswer
+unfolding add_answer
 returns-4 c =
     let e = c.before.before.before in
     let p = accepted-sheet e in
@@ -199,7 +199,7 @@ same-length-4 : tie.Need-same-length-4
 same-length-4 c = search rules
 
 returns-5 : tie.Need-returns-5
-unfolding addAnswer
+unfolding add_answer
 returns-5 c =
     let t = c.before.before.before in
     shows-refusal _ _ _ _

@@ -11,8 +11,8 @@ use Rattle.bits.proofs.Tests.{both_true}
 use Rattle.answer.specs.Demand.{◌&◌}
 use Rattle.answer.specs.Demand.Stops.{fails, later}
 use Rattle.answer.proofs.Residues.{shows-refusal, shows-acceptance}
-use Rattle.levels.specs.Lines.{line_at, sheetSound, sheetJoined}
-use Rattle.levels.specs.Calls.{hasRoom, joinAnswer}
+use Rattle.levels.specs.Lines.{line_at, sheet_sound, sheet_joined}
+use Rattle.levels.specs.Calls.{has_room, join_answer}
 use Rattle.levels.proofs.AtOnce.{one_of_two}
 use Rattle.levels.proofs.Places.{length-joined}
 use borrow.Author.Rules.{rules}
@@ -31,32 +31,32 @@ module _ (t : tie.Else2) where
   abbrev start : tie.Start
   start = t.before.before
 
-  ofOne : length (old start) ≡ 20
-  ofOne = t.before.if1.left
+  of_one : length (old start) ≡ 20
+  of_one = t.before.if1.left
 
   two : length (after start) ≡ 20
   two = t.if2.left
 
 -- the first sheet is sound, the second
-first-sound : (t : tie.Then3) → sheetSound (old (start t.before.before.before)) ≡ true
+first-sound : (t : tie.Then3) → sheet_sound (old (start t.before.before.before)) ≡ true
 first-sound t = sym t.before.sound-sheet.ensures ∙ t.if3.true
 
-second-sound : (t : tie.Then4) → sheetSound (after (start t.before.before.before.before.before)) ≡ true
+second-sound : (t : tie.Then4) → sheet_sound (after (start t.before.before.before.before.before)) ≡ true
 second-sound t = sym t.before.sound-sheet2.ensures ∙ t.if4.true
 
 -- what was said of the room
 said : (t : tie.After-have-room)
     → let s = start t.before.before.before.before.before.before.before.before.before in
     t.have-room.result
-    ≡ (hasRoom (old s) 0 (nat_abs (line_at (after s) 0)) && hasRoom (old s) 10 (nat_abs (line_at (after s) 10)))
+    ≡ (has_room (old s) 0 (nat_abs (line_at (after s) 0)) && has_room (old s) 10 (nat_abs (line_at (after s) 10)))
 said t = rw (t.before.before.before.line_at_lem.ensures, t.before.before.line-at2.ensures) at t.have-room.ensures
 
 returns : tie.Need-returns
-unfolding joinAnswer
+unfolding join_answer
 returns c = shows-refusal _ _ _ _ (fails (ne_eqb _ 20 c.if1.true))
 
 returns-2 : tie.Need-returns-2
-unfolding joinAnswer
+unfolding join_answer
 returns-2 c = shows-refusal _ _ _ _ (later (eq-eqb _ 20 c.before.if1.false) (fails (ne_eqb _ 20 c.if2.true)))
 
 sound-sheet-requires : tie.Need-sound-sheet-requires
@@ -78,53 +78,53 @@ join-lines-requires : tie.Need-join-lines-requires
 join-lines-requires c κs =
     let s = c.before.before.before.before.before.before in
     let t = s.before.before.before.before.before in
-    (ofOne t, two t, first-sound s.before.before, second-sound s)
+    (of_one t, two t, first-sound s.before.before, second-sound s)
 
 same_length : tie.Need-same-length
 same_length c = search rules
 
 returns-3 : tie.Need-returns-3
-unfolding joinAnswer
+unfolding join_answer
 returns-3 c =
     let r = c.before.before.before in
     let s = r.before.before.before.before.before in
     let t = s.before.before.before.before.before in
     let h = both_true _ _ (sym (said r.before) ∙ r.if5.true) in
     shows-acceptance _ _ _ _ _
-    (eq-eqb _ 20 (ofOne t) & eq-eqb _ 20 (two t) & first-sound s.before.before & second-sound s & h.0 & h.1 & tt)
-    (length-joined (old (start t)) (after (start t)) ∙ sym (ofOne t)) c.before.join-lines.ensures
+    (eq-eqb _ 20 (of_one t) & eq-eqb _ 20 (two t) & first-sound s.before.before & second-sound s & h.0 & h.1 & tt)
+    (length-joined (old (start t)) (after (start t)) ∙ sym (of_one t)) c.before.join-lines.ensures
 
 same-length-2 : tie.Need-same-length-2
 same-length-2 c = search rules
 
 returns-4 : tie.Need-returns-4
-unfolding joinAnswer
+unfolding join_answer
 returns-4 c =
     let s = c.before.before.before.before.before in
     let t = s.before.before.before.before.before in
     shows-refusal _ _ _ _
-    (later (eq-eqb _ 20 (ofOne t)) (later (eq-eqb _ 20 (two t)) (later (first-sound s.before.before) (later (second-sound s)
+    (later (eq-eqb _ 20 (of_one t)) (later (eq-eqb _ 20 (two t)) (later (first-sound s.before.before) (later (second-sound s)
     (one_of_two _ _ (sym (said c.before) ∙ c.if5.false))))))
 
 same-length-3 : tie.Need-same-length-3
 same-length-3 c = search rules
 
 returns-5 : tie.Need-returns-5
-unfolding joinAnswer
+unfolding join_answer
 returns-5 c =
     let t = c.before.before.before.before.before in
     shows-refusal _ _ _ _
-    (later (eq-eqb _ 20 (ofOne t)) (later (eq-eqb _ 20 (two t)) (later (first-sound c.before.before) (fails (sym
+    (later (eq-eqb _ 20 (of_one t)) (later (eq-eqb _ 20 (two t)) (later (first-sound c.before.before) (fails (sym
     c.before.sound-sheet2.ensures ∙ c.if4.false)))))
 
 same-length-4 : tie.Need-same-length-4
 same-length-4 c = search rules
 
 returns-6 : tie.Need-returns-6
-unfolding joinAnswer
+unfolding join_answer
 returns-6 c =
     let t = c.before.before.before in
-    shows-refusal _ _ _ _ (later (eq-eqb _ 20 (ofOne t)) (later (eq-eqb _ 20 (two t)) (fails (sym c.before.sound-sheet.ensures
+    shows-refusal _ _ _ _ (later (eq-eqb _ 20 (of_one t)) (later (eq-eqb _ 20 (two t)) (fails (sym c.before.sound-sheet.ensures
     ∙ c.if3.false))))
 
 pub join-spec : {M : Type 1} → statement M

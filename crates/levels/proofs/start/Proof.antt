@@ -13,14 +13,14 @@ use Rattle.bits.proofs.Filling.{over, over-next, over-all, length_over}
 use Rattle.answer.specs.Demand.{◌&◌}
 use Rattle.answer.specs.Demand.Stops.{fails}
 use Rattle.answer.proofs.Residues.{shows-refusal, shows-acceptance}
-use Rattle.levels.specs.Lines.{emptySheet, emptyLine}
-use Rattle.levels.specs.Calls.{startAnswer}
+use Rattle.levels.specs.Lines.{empty_sheet, empty_line}
+use Rattle.levels.specs.Calls.{start_answer}
 use Rattle.levels.proofs.Places.{length-empty, at-empty}
 use Rattle.levels.proofs.start.Statement.{statement}
 use Rattle.levels.proofs.start.Tie as tie
 
 abbrev invariant-loop : tie.invariant-loop
-invariant-loop sheet₀ k₀ sheet k = (k ≤ 20) × (sheet ≡ over k emptySheet sheet₀)
+invariant-loop sheet₀ k₀ sheet k = (k ≤ 20) × (sheet ≡ over k empty_sheet sheet₀)
 
 abbrev decreases-loop : tie.decreases-loop
 decreases-loop sheet₀ k₀ sheet k = 20 - k
@@ -36,18 +36,18 @@ module _ (c : tie.At-loop invariant-loop decreases-loop) where
   twenty = c.before.if1.false
 
   long : length c.loop.sheet ≡ length old
-  long = ap length c.loop.invariant.1 ∙ length_over k emptySheet old (omega (arith, length-empty)) (omega (arith, twenty))
+  long = ap length c.loop.invariant.1 ∙ length_over k empty_sheet old (omega (arith, length-empty)) (omega (arith, twenty))
 
-  next : (z : ℤ) → k < 20 → z ≡ emptyLine (k % 10) → set c.loop.sheet k z ≡ over (k + 1) emptySheet old
+  next : (z : ℤ) → k < 20 → z ≡ empty_line (k % 10) → set c.loop.sheet k z ≡ over (k + 1) empty_sheet old
   next z h e =
       ap₂ (λ (l : List ℤ) (y : ℤ). set l k y) c.loop.invariant.1 (e ∙ sym (at-empty k h))
-      ∙ over-next k emptySheet old (pos 0) (omega (arith, length-empty)) (omega (arith, twenty))
+      ∙ over-next k empty_sheet old (pos 0) (omega (arith, length-empty)) (omega (arith, twenty))
 
-  done : 20 ≤ k → c.loop.sheet ≡ emptySheet
-  done h = c.loop.invariant.1 ∙ over-all k emptySheet old (omega (arith, length-empty)) (omega (arith, twenty))
+  done : 20 ≤ k → c.loop.sheet ≡ empty_sheet
+  done h = c.loop.invariant.1 ∙ over-all k empty_sheet old (omega (arith, length-empty)) (omega (arith, twenty))
 
 returns : tie.Need-returns invariant-loop decreases-loop
-unfolding startAnswer
+unfolding start_answer
 returns c = shows-refusal _ _ _ _ (fails (ne_eqb _ 20 c.if1.true))
 
 loop-holds : tie.Need-loop-init invariant-loop decreases-loop
@@ -77,7 +77,7 @@ same_length : tie.Need-same-length invariant-loop decreases-loop
 same_length c = long c.before
 
 returns-2 : tie.Need-returns-2 invariant-loop decreases-loop
-unfolding startAnswer
+unfolding start_answer
 returns-2 c =
     let p = c.before in
     shows-acceptance _ _ _ _ _ (eq-eqb _ 20 (twenty p) & tt) (length-empty ∙ sym (twenty p)) (done p c.loop-test.false)

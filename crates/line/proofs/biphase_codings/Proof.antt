@@ -3,12 +3,12 @@ use mathlib.Core.Path.{refl}
 use mathlib.Core.Bool.{xor}
 use Rattle.bits.specs.Row.{bits, big}
 use Rattle.bits.specs.Listed.{listed}
-use Rattle.line.specs.Biphase.{biphase, biphaseTable}
+use Rattle.line.specs.Biphase.{biphase, biphase_table}
 use Rattle.line.proofs.biphase_codings.Statement.{statement}
 use Rattle.line.proofs.biphase_codings.Tie as tie
 
 returns : tie.Need-returns
-unfolding biphaseTable listed big biphase bits xor
+unfolding biphase_table listed big biphase bits xor
 returns c = refl
 
 pub biphase-codings-spec : {M : Type 1} → statement M

@@ -11,7 +11,7 @@ use lib.Seq.{take-suc, take-suc-set, take_all}
 use Rattle.answer.specs.Demand.{◌&◌}
 use Rattle.answer.specs.Demand.Stops.{fails}
 use Rattle.answer.proofs.Residues.{shows-refusal, shows-acceptance}
-use Rattle.line.specs.Biphase.{biphaseTable, tableLaid}
+use Rattle.line.specs.Biphase.{biphase_table, table_laid}
 use Rattle.line.proofs.BiphaseByOctet.{length-table}
 use Rattle.line.proofs.lay_biphase_table.Statement.{statement}
 use Rattle.line.proofs.lay_biphase_table.Tie as tie
@@ -23,7 +23,7 @@ abbrev decreases-loop : tie.decreases-loop
 decreases-loop out₀ table d₀ out d = 256 - d
 
 returns : tie.Need-returns invariant-loop decreases-loop
-unfolding tableLaid
+unfolding table_laid
 returns c = shows-refusal _ _ _ _ (fails (ne_eqb _ 256 c.if1.true))
 
 biphase-codings-requires : tie.Need-biphase-codings-requires invariant-loop decreases-loop
@@ -68,7 +68,7 @@ same_length : tie.Need-same-length invariant-loop decreases-loop
 same_length c = search rules
 
 returns-2 : tie.Need-returns-2 invariant-loop decreases-loop
-unfolding tableLaid
+unfolding table_laid
 returns-2 c =
     let made = c.before.before.biphase-codings in
     let out = c.before.loop.out in

@@ -1,6 +1,6 @@
 -- `madi_code::bits_by` meets its contract: the two halves, side by side. Assumes nothing.
 use borrow.Author.Rules.{rules}
-use Rattle.madi_code.specs.Inner.{eightGroups}
+use Rattle.madi_code.specs.Inner.{eight_groups}
 use Rattle.madi_code.proofs.bits_by.Statement.{statement}
 use Rattle.madi_code.proofs.bits_by.Tie as tie
 
@@ -17,7 +17,7 @@ add-result : tie.Need-overflow-add-result
 add-result c = search rules
 
 returns : tie.Need-returns
-unfolding eightGroups
+unfolding eight_groups
 returns c = search rules
 
 pub bits-by-spec : {M : Type 1} → statement M

@@ -7,19 +7,19 @@ use borrow.Author.Rules.{rules}
 use borrow.Author.Tests.{eq-eqb, ne_eqb}
 use lib.ListN.{get_or}
 use Rattle.bits.specs.Pick.{pick}
-use Rattle.madi_code.specs.Inner.{place_in, commandBy}
+use Rattle.madi_code.specs.Inner.{place_in, command_by}
 use Rattle.madi_code.proofs.command_by.Statement.{statement}
 use Rattle.madi_code.proofs.command_by.Tie as tie
 
 module _ (t : List ℕ) (v x : ℕ) (e : x ≡ get_or t (place_in v) 0) where
-  matched : x / 16 ≡ v → x % 16 ≡ commandBy t v
-  unfolding commandBy
+  matched : x / 16 ≡ v → x % 16 ≡ command_by t v
+  unfolding command_by
   matched q =
       ap (λ (y : ℕ). y % 16) e
       ∙ sym (ap (λ (b : Bool). pick b (get_or t (place_in v) 0 % 16) 16) (eq-eqb (get_or t (place_in v) 0 / 16) v (ap (λ (y : ℕ). y / 16) (sym e) ∙ q)))
 
-  unmatched : (x / 16 ≡ v → ⊥) → 16 ≡ commandBy t v
-  unfolding commandBy
+  unmatched : (x / 16 ≡ v → ⊥) → 16 ≡ command_by t v
+  unfolding command_by
   unmatched other =
       sym (ap (λ (b : Bool). pick b (get_or t (place_in v) 0 % 16) 16) (ne_eqb (get_or t (place_in v) 0 / 16) v (λ q. other (ap (λ (y : ℕ). y / 16) e ∙ q))))
 

@@ -3,14 +3,14 @@ use mathlib.Core.Path.{◌≡◌, sym, ap, ◌∙◌}
 use Prim.Native.Nat.{ℕ}
 use native.Mathlib.Omega.{arith}
 use borrow.Author.Rules.{rules}
-use Rattle.madi_code.specs.Groups.{commandCodes, commandCode, commandOf}
+use Rattle.madi_code.specs.Groups.{command_codes, command_code, command_of}
 use Rattle.madi_code.proofs.GroupLaws.{command-back, no-half}
 use Rattle.madi_code.proofs.command_of.Statement.{statement}
 use Rattle.madi_code.proofs.command_of.Tie as tie
 
 returns : tie.Need-returns
-unfolding commandCode commandCodes
-returns c = sym (ap commandOf c.if1.true ∙ command-back 0 (omega arith))
+unfolding command_code command_codes
+returns c = sym (ap command_of c.if1.true ∙ command-back 0 (omega arith))
 
 cast-decode-group : tie.Need-overflow-cast-decode-group
 cast-decode-group c = search rules

@@ -1,6 +1,6 @@
 -- `madi_code::four_groups` meets its contract: four loads, side by side. Assumes nothing.
 use borrow.Author.Rules.{rules}
-use Rattle.madi_code.specs.Inner.{fourGroups}
+use Rattle.madi_code.specs.Inner.{four_groups}
 use Rattle.madi_code.proofs.four_groups.Statement.{statement}
 use Rattle.madi_code.proofs.four_groups.Tie as tie
 
@@ -35,7 +35,7 @@ add-result-3 : tie.Need-overflow-add-result-3
 add-result-3 c = search rules
 
 returns : tie.Need-returns
-unfolding fourGroups
+unfolding four_groups
 returns c = search rules
 
 pub four-groups-spec : {M : Type 1} → statement M

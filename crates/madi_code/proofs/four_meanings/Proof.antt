@@ -1,6 +1,6 @@
 -- `madi_code::four_meanings` meets its contract: four loads, added up and side by side. Assumes nothing.
 use borrow.Author.Rules.{rules}
-use Rattle.madi_code.specs.Inner.{fourSum, fourFours}
+use Rattle.madi_code.specs.Inner.{four_sum, four_fours}
 use Rattle.madi_code.proofs.four_meanings.Statement.{statement}
 use Rattle.madi_code.proofs.four_meanings.Tie as tie
 
@@ -44,7 +44,7 @@ add-t15 : tie.Need-overflow-add-t15
 add-t15 c = search rules
 
 returns : tie.Need-returns
-unfolding fourSum fourFours
+unfolding four_sum four_fours
 returns c = search rules
 
 pub four-meanings-spec : {M : Type 1} → statement M

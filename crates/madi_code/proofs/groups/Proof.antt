@@ -10,22 +10,22 @@ use lib.ListN.{length, get_or, set, length-set}
 use lib.Seq.{get_or-set_same, get_or-set_other}
 use Rattle.bits.specs.Row.{bits, big}
 use Rattle.bits.proofs.Tests.{order}
-use Rattle.madi_code.specs.Groups.{groupCodes, groupCode}
+use Rattle.madi_code.specs.Groups.{group_codes, group_code}
 use Rattle.madi_code.proofs.GroupLaws.{place-lt, turns, turns-right}
 use Rattle.madi_code.proofs.TableLaws.{sends-all}
 use Rattle.madi_code.proofs.groups.Statement.{statement}
 use Rattle.madi_code.proofs.groups.Tie as tie
 
 abbrev invariant-loop : tie.invariant-loop
-invariant-loop codes turned table₀ x₀ table x = (x ≤ 16) × (length table ≡ 16) × ((k : ℕ) → k < x → get_or table k 0 ≡ groupCode (big (bits 4 k)))
+invariant-loop codes turned table₀ x₀ table x = (x ≤ 16) × (length table ≡ 16) × ((k : ℕ) → k < x → get_or table k 0 ≡ group_code (big (bits 4 k)))
 
 abbrev decreases-loop : tie.decreases-loop
 decreases-loop codes turned table₀ x₀ table x = 16 - x
 
 -- the group of four bits
-right : (codes : List ℕ) (x : ℕ) → codes ≡ groupCodes → x < 16 → get_or codes (get_or turns x 0) 0 ≡ groupCode (big (bits 4 x))
-unfolding groupCode
-right codes x e h = ap (λ (l : List ℕ). get_or l (get_or turns x 0) 0) e ∙ ap (λ (d : ℕ). get_or groupCodes d 0) (turns-right x h)
+right : (codes : List ℕ) (x : ℕ) → codes ≡ group_codes → x < 16 → get_or codes (get_or turns x 0) 0 ≡ group_code (big (bits 4 x))
+unfolding group_code
+right codes x e h = ap (λ (l : List ℕ). get_or l (get_or turns x 0) 0) e ∙ ap (λ (d : ℕ). get_or group_codes d 0) (turns-right x h)
 
 group-codes-requires : tie.Need-group-codes-requires invariant-loop decreases-loop
 group-codes-requires c κs = search rules
@@ -59,7 +59,7 @@ loop-again c =
       omega arith,
       length-set l.table l.x v ∙ l.invariant.1,
       λ k h. ⊎_elim (λ (q : l.x ≤ k). let e : l.x ≡ k = omega arith in
-          subst (λ (i : ℕ). get_or (set l.table l.x v) i 0 ≡ groupCode (big (bits 4 i))) e
+          subst (λ (i : ℕ). get_or (set l.table l.x v) i 0 ≡ group_code (big (bits 4 i))) e
           (get_or-set_same l.table l.x v 0 (omega arith) ∙ right g.result l.x g.ensures (omega arith)))
           (λ (q : k < l.x). get_or-set_other l.table l.x k v 0 (λ e. absurd (omega arith)) ∙ l.invariant.2 k q) (order l.x k),
     )

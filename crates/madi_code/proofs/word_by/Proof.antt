@@ -2,7 +2,7 @@
 -- nothing.
 use borrow.Author.Rules.{rules}
 use borrow.Author.Tests.{lt-ltb, le-ltb}
-use Rattle.madi_code.specs.Inner.{eightSum, eightFours, wordByTable}
+use Rattle.madi_code.specs.Inner.{eight_sum, eight_fours, word_by_table}
 use Rattle.madi_code.proofs.word_by.Statement.{statement}
 use Rattle.madi_code.proofs.word_by.Tie as tie
 
@@ -22,14 +22,14 @@ add-result : tie.Need-overflow-add-result
 add-result c = search rules
 
 returns : tie.Need-returns
-unfolding wordByTable eightSum eightFours
+unfolding word_by_table eight_sum eight_fours
 returns c =
     let early = c.before.before.before.before.before.before.four-meanings.ensures in
     let late = c.before.before.before.before.before.four-meanings2.ensures in
     rw (← early.0, ← late.0, ← early.2, ← late.2, lt-ltb _ 128 c.before.before.if1.true)
 
 returns-2 : tie.Need-returns-2
-unfolding wordByTable eightSum eightFours
+unfolding word_by_table eight_sum eight_fours
 returns-2 c =
     rw (
       ← c.before.before.before.before.four-meanings.ensures.0,

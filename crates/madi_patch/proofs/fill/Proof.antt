@@ -4,15 +4,15 @@ use mathlib.Core.Path.{ap, ◌∙◌}
 use Prim.Native.Nat.{◌-◌}
 use native.Mathlib.Omega.{arith}
 use borrow.Author.Rules.{rules}
-use Rattle.madi_patch.specs.Slot.{panel, verdictOctet, slotOctet, slotWord}
+use Rattle.madi_patch.specs.Slot.{panel, verdict_octet, slot_octet, slot_word}
 use Rattle.madi_patch.proofs.Listing.{Listing, none-listed, as_long, one_more, all_listed}
 use Rattle.madi_patch.proofs.fill.Statement.{statement}
 use Rattle.madi_patch.proofs.fill.Tie as tie
 
 abbrev invariant-loop : tie.invariant-loop
 invariant-loop channels active ins outs rows frame out₀ verdicts₀ o₀ out verdicts o =
-    Listing (slotWord (panel active ins outs rows frame)) channels out₀ out o
-    × Listing (slotOctet (panel active ins outs rows frame)) channels verdicts₀ verdicts o
+    Listing (slot_word (panel active ins outs rows frame)) channels out₀ out o
+    × Listing (slot_octet (panel active ins outs rows frame)) channels verdicts₀ verdicts o
 
 abbrev decreases-loop : tie.decreases-loop
 decreases-loop channels active ins outs rows frame out₀ verdicts₀ o₀ out verdicts o = channels - o
@@ -54,7 +54,7 @@ loop-again c =
     let p = j.before in
     let v = p.before.loop in (
       one_more v.invariant.0 c.word.result p.loop-test.true c.word.ensures,
-      one_more v.invariant.1 c.before.octet.result p.loop-test.true (c.before.octet.ensures ∙ ap verdictOctet j.judge.ensures),
+      one_more v.invariant.1 c.before.octet.result p.loop-test.true (c.before.octet.ensures ∙ ap verdict_octet j.judge.ensures),
     )
 
 same_length : tie.Need-same-length invariant-loop decreases-loop

@@ -12,7 +12,7 @@ use Rattle.answer.specs.Demand.Stops.{fails, later}
 use Rattle.answer.proofs.Residues.{shows-refusal, shows-acceptance}
 use Rattle.madi_code.specs.Frame.{counted}
 use Rattle.madi_patch.specs.Slot.{Panel, panel}
-use Rattle.madi_patch.specs.Patch.{patched, frame_of, verdictsOf, patchDemands, patchAnswer, frameAfter, verdictsAfter}
+use Rattle.madi_patch.specs.Patch.{patched, frame_of, verdicts_of, patch_demands, patch_answer, frame_after, verdicts_after}
 use Rattle.madi_patch.proofs.PatchLaws.{lengths, frame_made, verdicts-made, length-made-frame, length-verdicts}
 use Rattle.madi_patch.proofs.patch.Statement.{statement}
 use Rattle.madi_patch.proofs.patch.Tie as tie
@@ -23,15 +23,15 @@ lent s = panel s.args.active s.args.ins.now s.args.outs.now s.args.rows.now s.ar
 
 -- a way out by a demand that is not met
 refuses : (s : tie.Start) {number place : ℕ}
-    → Stops (patchDemands s.args.channels (lent s) (length s.args.out.now) (length s.args.verdicts.now)) number place
-    → (refused number place ≡ verdict (patchAnswer s.args.channels (lent s) (length s.args.out.now) (length s.args.verdicts.now)))
-    × ((s.args.out.now ≡ frameAfter s.args.channels (lent s) s.args.out.now s.args.verdicts.now)
-    × (s.args.verdicts.now ≡ verdictsAfter s.args.channels (lent s) s.args.out.now s.args.verdicts.now))
-unfolding patchAnswer
+    → Stops (patch_demands s.args.channels (lent s) (length s.args.out.now) (length s.args.verdicts.now)) number place
+    → (refused number place ≡ verdict (patch_answer s.args.channels (lent s) (length s.args.out.now) (length s.args.verdicts.now)))
+    × ((s.args.out.now ≡ frame_after s.args.channels (lent s) s.args.out.now s.args.verdicts.now)
+    × (s.args.verdicts.now ≡ verdicts_after s.args.channels (lent s) s.args.out.now s.args.verdicts.now))
+unfolding patch_answer
 refuses s stop =
     let made = patched s.args.channels (lent s) in
     let f = shows-refusal {B = Unit {0}} (λ v. tt) frame_of made s.args.out.now stop in
-    let g = shows-refusal {B = Unit {0}} (λ v. tt) verdictsOf made s.args.verdicts.now stop in
+    let g = shows-refusal {B = Unit {0}} (λ v. tt) verdicts_of made s.args.verdicts.now stop in
     (f.0, (f.1, g.1))
 
 -- past the test of the channel count
@@ -62,7 +62,7 @@ same-length-2 : tie.Need-same-length-2
 same-length-2 c = search rules
 
 returns : tie.Need-returns
-unfolding patchAnswer
+unfolding patch_answer
 returns c =
     let e = c.before.before.before.before in
     let f = e.before.before.before in
@@ -72,13 +72,13 @@ returns c =
     let l = sym f.before.are-as-long.ensures ∙ f.if4.true in
     let long =
     lengths s.args.channels (lent s) (length s.args.out.now) (length s.args.verdicts.now) f.before.before.if3.true l in
-    let ds = patchDemands s.args.channels (lent s) (length s.args.out.now) (length s.args.verdicts.now) in
+    let ds = patch_demands s.args.channels (lent s) (length s.args.out.now) (length s.args.verdicts.now) in
     let m : AllMet ds = counts t & le-leb _ _ f.before.before.before.if2.true & le-leb _ _ f.before.before.if3.true & l & tt in
     let a =
     shows-acceptance {B = Unit {0}} (λ v. tt) frame_of made s.args.out.now ds m
     (length-made-frame s.args.channels (lent s) ∙ sym long.of-out) (e.fill.ensures.0 ∙ sym (frame_made s.args.channels (lent s))) in
     let b =
-    shows-acceptance {B = Unit {0}} (λ v. tt) verdictsOf made s.args.verdicts.now ds m
+    shows-acceptance {B = Unit {0}} (λ v. tt) verdicts_of made s.args.verdicts.now ds m
     (length-verdicts s.args.channels (lent s) ∙ sym long.of-verdicts) (e.fill.ensures.1 ∙ sym (verdicts-made s.args.channels (lent s))) in
     (a.0, (a.1, b.1))
 

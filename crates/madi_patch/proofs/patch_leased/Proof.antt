@@ -14,22 +14,22 @@ use Rattle.answer.specs.Demand.Stops.{fails, later}
 use Rattle.answer.proofs.Chains.{passing, stopped}
 use Rattle.madi_code.specs.Frame.{counted}
 use Rattle.madi_code.proofs.FrameLaws.{counted-le}
-use Rattle.madi_patch.specs.Patch.{patchAnswer}
-use Rattle.madi_patch.specs.Leased.{leasedPanel, leasedDemands, leasedAnswer, leasedFrame, leasedVerdicts}
+use Rattle.madi_patch.specs.Patch.{patch_answer}
+use Rattle.madi_patch.specs.Leased.{leased_panel, leased_demands, leased_answer, leased_frame, leased_verdicts}
 use Rattle.madi_patch.proofs.patch_leased.Statement.{statement}
 use Rattle.madi_patch.proofs.patch_leased.Tie as tie
 
 -- a way out by a demand that is not met
-refuses : (s : tie.Start) {number place : ℕ} → Stops (leasedDemands s.args.channels s.args.active s.args.leases.now) number place
-    → (refused number place ≡ verdict (leasedAnswer s.args.channels s.args.active s.args.leases.now s.args.rows.now s.args.frame.now
+refuses : (s : tie.Start) {number place : ℕ} → Stops (leased_demands s.args.channels s.args.active s.args.leases.now) number place
+    → (refused number place ≡ verdict (leased_answer s.args.channels s.args.active s.args.leases.now s.args.rows.now s.args.frame.now
     (length s.args.out.now) (length s.args.verdicts.now)))
-    × ((s.args.out.now ≡ leasedFrame s.args.channels s.args.active s.args.leases.now s.args.rows.now s.args.frame.now
+    × ((s.args.out.now ≡ leased_frame s.args.channels s.args.active s.args.leases.now s.args.rows.now s.args.frame.now
     s.args.out.now s.args.verdicts.now)
-    × (s.args.verdicts.now ≡ leasedVerdicts s.args.channels s.args.active s.args.leases.now s.args.rows.now s.args.frame.now
+    × (s.args.verdicts.now ≡ leased_verdicts s.args.channels s.args.active s.args.leases.now s.args.rows.now s.args.frame.now
     s.args.out.now s.args.verdicts.now))
-unfolding leasedAnswer
+unfolding leased_answer
 refuses s stop =
-    rw (stopped (patchAnswer s.args.channels (leasedPanel s.args.channels s.args.active s.args.leases.now s.args.rows.now s.args.frame.now)
+    rw (stopped (patch_answer s.args.channels (leased_panel s.args.channels s.args.active s.args.leases.now s.args.rows.now s.args.frame.now)
     (length s.args.out.now) (length s.args.verdicts.now)) stop) (refl, (refl, refl))
 
 -- past the test of the channel count
@@ -66,16 +66,16 @@ same-length-2 : tie.Need-same-length-2
 same-length-2 c = search rules
 
 returns-2 : tie.Need-returns-2
-unfolding leasedAnswer
+unfolding leased_answer
 returns-2 c =
     let f = c.before.before.before.before in
     let e = f.before.before.before.before in
     let t = e.before.before.before in
     let s = start t in
-    let m : AllMet (leasedDemands s.args.channels s.args.active s.args.leases.now) =
+    let m : AllMet (leased_demands s.args.channels s.args.active s.args.leases.now) =
     counts t & le-leb _ _ e.before.before.if2.true & le-leb _ _ e.before.if3.true & eq-eqb _ _ e.if4.false & tt in
-    rw (passing (patchAnswer s.args.channels (leasedPanel s.args.channels s.args.active s.args.leases.now s.args.rows.now s.args.frame.now)
-    (length s.args.out.now) (length s.args.verdicts.now)) (leasedDemands s.args.channels s.args.active s.args.leases.now) m)
+    rw (passing (patch_answer s.args.channels (leased_panel s.args.channels s.args.active s.args.leases.now s.args.rows.now s.args.frame.now)
+    (length s.args.out.now) (length s.args.verdicts.now)) (leased_demands s.args.channels s.args.active s.args.leases.now) m)
     f.patch.ensures
 
 returns-3 : tie.Need-returns-3

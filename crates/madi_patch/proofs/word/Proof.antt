@@ -4,7 +4,7 @@ use Prim.Native.Nat.{◌<◌}
 use native.Mathlib.Omega.{arith}
 use borrow.Author.Rules.{rules}
 use lib.ListN.{get_or}
-use Rattle.madi_patch.specs.Slot.{Panel, panel, heard, namedWord, slotWord}
+use Rattle.madi_patch.specs.Slot.{Panel, panel, heard, named_word, slot_word}
 use Rattle.madi_patch.specs.declared.SlotVerdict.{SlotVerdict}
 use Rattle.madi_patch.proofs.SlotLaws.{carried-only}
 use Rattle.madi_patch.proofs.word.Statement.{statement}
@@ -56,30 +56,30 @@ enum-told-4 : tie.Need-enum-told-4
 enum-told-4 c = search rules
 
 returns : tie.Need-returns
-unfolding slotWord
+unfolding slot_word
 returns c =
     let k = c.before.before.before in
     let s = start k.before.before in
     c.cleared-word.ensures
-    ∙ ap (λ (v : SlotVerdict). heard v (namedWord (lent s) s.args.o)) (sym k.enum_told.given.1 ∙ s.pre.1)
+    ∙ ap (λ (v : SlotVerdict). heard v (named_word (lent s) s.args.o)) (sym k.enum_told.given.1 ∙ s.pre.1)
 
 returns-2 : tie.Need-returns-2
-unfolding slotWord
+unfolding slot_word
 returns-2 c =
     let s = start c.before.before in
-    ap (λ (v : SlotVerdict). heard v (namedWord (lent s) s.args.o)) (sym c.enum-told2.given.1 ∙ s.pre.1)
+    ap (λ (v : SlotVerdict). heard v (named_word (lent s) s.args.o)) (sym c.enum-told2.given.1 ∙ s.pre.1)
 
 returns-3 : tie.Need-returns-3
-unfolding slotWord
+unfolding slot_word
 returns-3 c =
     let s = start c.before.before in
-    ap (λ (v : SlotVerdict). heard v (namedWord (lent s) s.args.o)) (sym c.enum-told3.given.1 ∙ s.pre.1)
+    ap (λ (v : SlotVerdict). heard v (named_word (lent s) s.args.o)) (sym c.enum-told3.given.1 ∙ s.pre.1)
 
 returns-4 : tie.Need-returns-4
-unfolding slotWord
+unfolding slot_word
 returns-4 c =
     let s = start c.before.before in
-    ap (λ (v : SlotVerdict). heard v (namedWord (lent s) s.args.o)) (sym c.enum-told4.given.1 ∙ s.pre.1)
+    ap (λ (v : SlotVerdict). heard v (named_word (lent s) s.args.o)) (sym c.enum-told4.given.1 ∙ s.pre.1)
 
 pub word-spec : {M : Type 1} → statement M
 word-spec =

@@ -8,7 +8,7 @@ use lib.ListN.{length, take}
 use lib.Seq.{length-take-le, take_all}
 use Rattle.answer.specs.Answer.{Answer, after}
 use Rattle.answer.proofs.Residues.{whole}
-use Rattle.madi_read.specs.Reader.{carried, Frame, rowRead, words_of, commandsOf, frameSaid}
+use Rattle.madi_read.specs.Reader.{carried, Frame, row_read, words_of, commands_of, frame_said}
 use Rattle.madi_read.specs.Inner.{Held}
 use Rattle.madi_read.proofs.Copying.{copied_all}
 use Rattle.madi_read.proofs.Said.{frame-read, frame_refused}
@@ -59,8 +59,8 @@ returns c =
     let g = c.before.before.before.before.before.before.before.before.before.before.before.answer.given in
     let held = w.walk.new.1.1.1.1.0 in
     let codes = w.walk.new.1.1.1.1.1.0 in
-    let said = ap frameSaid (sym g.1) ∙ w.walk.ensures.0 in
-    let t = frame-read (rowRead (carried a.level a.bits a.line.now) a.channels) g.0.0 g.0.1.0 said in
+    let said = ap frame_said (sym g.1) ∙ w.walk.ensures.0 in
+    let t = frame-read (row_read (carried a.level a.bits a.line.now) a.channels) g.0.0 g.0.1.0 said in
     let both = subst (λ (r : Answer Frame). Held a.channels r held codes) t.1 w.walk.ensures.1 in
     let size : length (words_of t.0) ≡ length a.words.now =
     ap length (sym both.0) ∙ length-take-le a.channels held (omega arith) ∙ sym s.requires.4 in
@@ -70,8 +70,8 @@ returns c =
         c.before.before.before.before.before.before.before.words.ensures ∙ copied_all held a.words.now (omega arith) ∙ ap (λ (k : ℕ). take k held) s.requires.4 ∙ both.0
             ∙ sym (whole words_of t.0 a.words.now size) ∙ sym (ap (λ (r : Answer Frame). after words_of r a.words.now) t.1),
         c.before.before.octets.ensures ∙ copied_all codes a.commands.now (omega arith) ∙ take_all (length a.commands.now) codes (omega arith) ∙ both.1
-            ∙ sym (whole commandsOf t.0 a.commands.now (ap length (sym both.1) ∙ same))
-            ∙ sym (ap (λ (r : Answer Frame). after commandsOf r a.commands.now) t.1),
+            ∙ sym (whole commands_of t.0 a.commands.now (ap length (sym both.1) ∙ same))
+            ∙ sym (ap (λ (r : Answer Frame). after commands_of r a.commands.now) t.1),
       ),
     )
 
@@ -80,10 +80,10 @@ returns-2 c =
     let w = c.before.before.before.before.before in
     let a = w.before.before.before.before.before.before.before.args in
     let g = c.before.answer2.given in
-    let said = ap frameSaid (sym g.1) ∙ w.walk.ensures.0 in
-    let t = frame_refused (rowRead (carried a.level a.bits a.line.now) a.channels) g.0.0 g.0.1.0 said in (
+    let said = ap frame_said (sym g.1) ∙ w.walk.ensures.0 in
+    let t = frame_refused (row_read (carried a.level a.bits a.line.now) a.channels) g.0.0 g.0.1.0 said in (
       said,
-      (sym (ap (λ (r : Answer Frame). after words_of r a.words.now) t), sym (ap (λ (r : Answer Frame). after commandsOf r a.commands.now) t)),
+      (sym (ap (λ (r : Answer Frame). after words_of r a.words.now) t), sym (ap (λ (r : Answer Frame). after commands_of r a.commands.now) t)),
     )
 
 pub read-checked-spec : {M : Type 1} → statement M

@@ -16,21 +16,21 @@ use Rattle.answer.specs.Demand.Stops.{fails, later}
 use Rattle.answer.proofs.Chains.{passing, stopped}
 use Rattle.madi_code.specs.Frame.{counted}
 use Rattle.madi_code.proofs.FrameLaws.{counted-le}
-use Rattle.madi_read.specs.Reader.{carried, rowRead, readDemands, frameRead, countsOf, words_of, commandsOf}
+use Rattle.madi_read.specs.Reader.{carried, row_read, read_demands, frame_read, counts_of, words_of, commands_of}
 use Rattle.madi_read.proofs.read_frame.Statement.{statement}
 use Rattle.madi_read.proofs.read_frame.Tie as tie
 
 abbrev demands : tie.Start → List Demand
 demands s =
-    readDemands s.args.channels s.args.level s.args.bits s.args.line.now (length s.args.words.now) (length s.args.commands.now)
+    read_demands s.args.channels s.args.level s.args.bits s.args.line.now (length s.args.words.now) (length s.args.commands.now)
 
 -- a way out by a demand that is not met
 refuses : (s : tie.Start) {number place : ℕ} → Stops (demands s) number place
-    → (refused number place ≡ mapped countsOf (frameRead s.args.channels s.args.level s.args.bits s.args.line.now (length s.args.words.now) (length s.args.commands.now)))
-    × ((s.args.words.now ≡ after words_of (frameRead s.args.channels s.args.level s.args.bits s.args.line.now (length s.args.words.now) (length s.args.commands.now)) s.args.words.now)
-    × (s.args.commands.now ≡ after commandsOf (frameRead s.args.channels s.args.level s.args.bits s.args.line.now (length s.args.words.now) (length s.args.commands.now)) s.args.commands.now))
-unfolding frameRead
-refuses s stop = rw (stopped (rowRead (carried s.args.level s.args.bits s.args.line.now) s.args.channels) stop) (refl, (refl, refl))
+    → (refused number place ≡ mapped counts_of (frame_read s.args.channels s.args.level s.args.bits s.args.line.now (length s.args.words.now) (length s.args.commands.now)))
+    × ((s.args.words.now ≡ after words_of (frame_read s.args.channels s.args.level s.args.bits s.args.line.now (length s.args.words.now) (length s.args.commands.now)) s.args.words.now)
+    × (s.args.commands.now ≡ after commands_of (frame_read s.args.channels s.args.level s.args.bits s.args.line.now (length s.args.words.now) (length s.args.commands.now)) s.args.commands.now))
+unfolding frame_read
+refuses s stop = rw (stopped (row_read (carried s.args.level s.args.bits s.args.line.now) s.args.channels) stop) (refl, (refl, refl))
 
 -- one of three demands with the same refusal is not met
 one-fails : (number : ℕ) (a b c : Bool) (ds : List Demand) → (a && (b && c)) ≡ false → Stops (asks number 0 a ∷ asks number 0 b ∷ asks number 0 c ∷ ds) number 0
@@ -80,7 +80,7 @@ same-length-2 : tie.Need-same-length-2
 same-length-2 c = search rules
 
 returns : tie.Need-returns
-unfolding frameRead
+unfolding frame_read
 returns c =
     let z = c.before.before.before.before.before.before.before in
     let l = z.before.before in
@@ -88,7 +88,7 @@ returns c =
     let s = l.before.before.before.before.before.before.before in
     let m : AllMet (demands s) =
     n.0 & n.1 & n.2 & (lengths l).0 & (lengths l).1 & (lengths l).2 & (sym z.before.spare-zero.ensures ∙ z.if3.true) & tt in
-    rw (passing (rowRead (carried s.args.level s.args.bits s.args.line.now) s.args.channels) (demands s) m)
+    rw (passing (row_read (carried s.args.level s.args.bits s.args.line.now) s.args.channels) (demands s) m)
     c.before.before.before.before.read-checked.ensures
 
 returns-2 : tie.Need-returns-2

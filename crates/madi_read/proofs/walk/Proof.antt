@@ -12,7 +12,7 @@ use Rattle.bits.specs.Row.{Row}
 use Rattle.answer.specs.Answer.{Answer, Answer.accepted, mapped}
 use Rattle.madi_code.proofs.TableLaws.{meanings-mean}
 use Rattle.madi_code.specs.Frame.{boundary}
-use Rattle.madi_read.specs.Reader.{carried, Frame, cleared, onward, read_on, rowRead, countsOf}
+use Rattle.madi_read.specs.Reader.{carried, Frame, cleared, onward, read_on, row_read, counts_of}
 use Rattle.madi_read.specs.Inner.{sofar, Listed, Held}
 use Rattle.madi_read.specs.declared.Piece.{Piece}
 use Rattle.madi_read.specs.declared.Piece.TheVariants.{End, Command, Channel}
@@ -27,7 +27,7 @@ abbrev invariant-loop : tie.invariant-loop
 invariant-loop line level channels bits held₀ codes₀ table n₀ active₀ s₀ held codes n active s =
     (n ≤ channels) × (s ≤ 255) × (boundary n s ≤ bits) × (active ≤ n) × (length held ≡ 64) × Listed s codes
     × (read_on (carried level bits line) channels (channels + 256 - (n + length (take s codes))) (sofar n active (take s codes) (take n held))
-    ≡ rowRead (carried level bits line) channels)
+    ≡ row_read (carried level bits line) channels)
 
 abbrev decreases-loop : tie.decreases-loop
 decreases-loop line level channels bits held₀ codes₀ table n₀ active₀ s₀ held codes n active s = bits - boundary n s
@@ -65,7 +65,7 @@ meanings-requires : tie.Need-meanings-requires invariant-loop decreases-loop
 meanings-requires c κs = search rules
 
 loop-holds : tie.Need-loop-init invariant-loop decreases-loop
-unfolding rowRead
+unfolding row_read
 loop-holds c = (search rules, search rules, search rules, search rules, search rules, c.before.before.before.before.requires.5, rw sub-zero)
 
 channels-on-requires : tie.Need-channels-on-requires invariant-loop decreases-loop
@@ -117,7 +117,7 @@ record Stands (d : tie.After-commands-on invariant-loop decreases-loop) : Type 0
   long : length (kept d) ≡ 64
   list : Listed d.commands-on.result (codes d)
   many : length (came d) ≡ d.commands-on.result
-  reads : read_on (row d) (all d) (all d + 256 - (count d + length (came d))) (frame d) ≡ rowRead (row d) (all d)
+  reads : read_on (row d) (all d) (all d + 256 - (count d + length (came d))) (frame d) ≡ row_read (row d) (all d)
 
 stands : (d : tie.After-commands-on invariant-loop decreases-loop) → Stands d
 stands d =
@@ -149,7 +149,7 @@ width d = let a = d.before.before.before.before.before.before.before.before.befo
 step : (c : tie.After-piece-at invariant-loop decreases-loop) (p : Piece) → c.piece-at.result ≡ p
     → let d = c.before.before.before.before.before in
     Room (row d) (all d) (frame d) p
-    × (onward (read_on (row d) (all d) (all d + 256 - (count d + length (came d) + 1))) (frame d) p ≡ rowRead (row d) (all d))
+    × (onward (read_on (row d) (all d) (all d + 256 - (count d + length (came d) + 1))) (frame d) p ≡ row_read (row d) (all d))
 step c p e =
     let d = c.before.before.before.before.before in
     let g = stands d in
@@ -172,7 +172,7 @@ returns c =
     let d = c.before.before.before.before.before.before.before in
     let g = stands d in
     let q = step c.before.before End c.enum_told.given.1 in (
-      ap (λ (k : ℕ). accepted (live d, k)) (sym g.many) ∙ ap (mapped countsOf) q.1,
+      ap (λ (k : ℕ). accepted (live d, k)) (sym g.many) ∙ ap (mapped counts_of) q.1,
       subst (λ (r : Answer Frame). Held (all d) r (kept d) (codes d)) q.1 (ap (λ (k : ℕ). take k (kept d)) (sym q.0.0), g.list.1),
     )
 
@@ -297,7 +297,7 @@ returns-2 c =
     let v = c.before.p3.given.0 in
     let d = c.before.before.before.before.before.before.before.before in
     let q = step c.before.before.before (NoPiece v.0 v.1.0) c.before.p3.given.1 in
-    (ap (mapped countsOf) q.1, subst (λ (r : Answer Frame). Held (all d) r (kept d) (codes d)) q.1 tt)
+    (ap (mapped counts_of) q.1, subst (λ (r : Answer Frame). Held (all d) r (kept d) (codes d)) q.1 tt)
 
 pub walk-spec : {M : Type 1} → statement M
 walk-spec =

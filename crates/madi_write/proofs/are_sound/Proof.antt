@@ -5,14 +5,14 @@ use Prim.Native.Nat.{ℕ, ◌-◌, ◌%◌, ◌≤◌, ◌<◌}
 use native.Mathlib.Omega.{arith}
 use borrow.Author.Rules.{rules}
 use lib.ListN.{length, get_or}
-use Rattle.subframe.specs.Body.{evenBody}
+use Rattle.subframe.specs.Body.{even_body}
 use Rattle.subframe.proofs.BodyLaws.{parity-lt}
 use Rattle.madi_write.proofs.Checks.{sound_more}
 use Rattle.madi_write.proofs.are_sound.Statement.{statement}
 use Rattle.madi_write.proofs.are_sound.Tie as tie
 
 abbrev invariant-loop : tie.invariant-loop
-invariant-loop words i₀ i = (i ≤ length words) × ((k : ℕ) → k < i → (evenBody (get_or words k 0) ≡ true) × (get_or words k 0 % 4 ≡ 0))
+invariant-loop words i₀ i = (i ≤ length words) × ((k : ℕ) → k < i → (even_body (get_or words k 0) ≡ true) × (get_or words k 0 % 4 ≡ 0))
 
 abbrev decreases-loop : tie.decreases-loop
 decreases-loop words i₀ i = length words - i

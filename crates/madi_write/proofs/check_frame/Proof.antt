@@ -12,7 +12,7 @@ use Rattle.answer.specs.Demand.Stops.{fails, later}
 use Rattle.answer.proofs.Chains.{stopped, passes_on}
 use Rattle.madi_code.specs.Frame.{counted}
 use Rattle.madi_code.proofs.FrameLaws.{counted-le}
-use Rattle.madi_write.specs.Writer.{isList, argumentDemands, channelWordDemands}
+use Rattle.madi_write.specs.Writer.{is_list, argument_demands, channel_word_demands}
 use Rattle.madi_write.proofs.Checks.{list_of}
 use Rattle.madi_write.proofs.check_frame.Statement.{statement}
 use Rattle.madi_write.proofs.check_frame.Tie as tie
@@ -24,7 +24,7 @@ small : (c : tie.Then1) → c.before.before.before.before.args.channels ≤ 64
 small c = counted-le c.before.before.before.before.args.channels (counts c)
 
 -- the list is one
-lists : (c : tie.Then4) → isList c.before.before.before.before.before.before.before.before.args.commands.now ≡ true
+lists : (c : tie.Then4) → is_list c.before.before.before.before.before.before.before.before.args.commands.now ≡ true
 lists c = sym c.before.is-list.ensures ∙ c.if4.true
 
 short : (c : tie.Then4) → length c.before.before.before.before.before.before.before.before.args.commands.now ≤ 255
@@ -48,11 +48,11 @@ returns c =
     let f = n.before.before in
     let t = f.before.before.before.before in
     let a = t.before.before.before.before.args in
-    let met : AllMet (argumentDemands a.channels (length a.words.now) a.commands.now a.level a.room) =
+    let met : AllMet (argument_demands a.channels (length a.words.now) a.commands.now a.level a.room) =
     counts t & le-leb _ _ f.before.before.before.if2.true & le-leb _ _ f.before.before.if3.true & lists f & le-leb _ _ n.before.if5.true
     & le-leb _ _ (subst (λ (m : ℕ). m ≤ a.room) n.octets-needed.ensures c.before.if6.true) & tt in
     c.check-words.ensures
-    ∙ sym (passes_on (accepted tt) (argumentDemands a.channels (length a.words.now) a.commands.now a.level a.room) (channelWordDemands a.words.now) met)
+    ∙ sym (passes_on (accepted tt) (argument_demands a.channels (length a.words.now) a.commands.now a.level a.room) (channel_word_demands a.words.now) met)
 
 returns-2 : tie.Need-returns-2
 returns-2 c =

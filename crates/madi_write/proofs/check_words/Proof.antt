@@ -3,7 +3,7 @@ use mathlib.Core.Path.{sym}
 use borrow.Author.Rules.{rules}
 use Rattle.answer.specs.Answer.{Answer.accepted}
 use Rattle.answer.proofs.Chains.{passing}
-use Rattle.madi_write.specs.Writer.{channelWordDemands}
+use Rattle.madi_write.specs.Writer.{channel_word_demands}
 use Rattle.madi_write.proofs.Checks.{sound-met}
 use Rattle.madi_write.proofs.check_words.Statement.{statement}
 use Rattle.madi_write.proofs.check_words.Tie as tie
@@ -14,7 +14,7 @@ are-sound-requires c κs = search rules
 returns : tie.Need-returns
 returns c =
     let w = c.before.before.before.args.words.now in
-    sym (passing (accepted tt) (channelWordDemands w) (sound-met w (c.before.are-sound.ensures c.if1.true)))
+    sym (passing (accepted tt) (channel_word_demands w) (sound-met w (c.before.are-sound.ensures c.if1.true)))
 
 find-fault-requires : tie.Need-find-fault-requires
 find-fault-requires c κs = search rules

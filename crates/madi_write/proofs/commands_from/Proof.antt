@@ -5,16 +5,16 @@ use Prim.Native.Nat.{ℕ, ◌+◌, ◌*◌, ◌-◌, ◌^◌, ◌≤◌, ◌<◌
 use native.Mathlib.Omega.{arith}
 use borrow.Author.Rules.{rules}
 use lib.ListN.{get_or}
-use Rattle.madi_code.specs.Groups.{commandCode}
+use Rattle.madi_code.specs.Groups.{command_code}
 use Rattle.madi_code.proofs.GroupLaws.{command-listed, command-small}
 use Rattle.madi_code.proofs.FrameLaws.{numbered-at}
-use Rattle.madi_write.specs.Inner.{commandsNumber}
+use Rattle.madi_write.specs.Inner.{commands_number}
 use Rattle.madi_write.proofs.Frames.{commands-next, commands-none, commands-lt}
 use Rattle.madi_write.proofs.commands_from.Statement.{statement}
 use Rattle.madi_write.proofs.commands_from.Tie as tie
 
 abbrev invariant-loop : tie.invariant-loop
-invariant-loop codes commands i k x₀ j₀ x j = (j ≤ k) × (x ≡ commandsNumber commands i j)
+invariant-loop codes commands i k x₀ j₀ x j = (j ≤ k) × (x ≡ commands_number commands i j)
 
 abbrev decreases-loop : tie.decreases-loop
 decreases-loop codes commands i k x₀ j₀ x j = k - j
@@ -29,7 +29,7 @@ small c =
     let s = c.before.before in
     numbered-at s.args.commands.now s.requires.3 (s.args.i + c.before.loop.j) (omega arith)
 
-coded : (c : tie.In-loop invariant-loop decreases-loop) → get_or c.before.before.args.codes.now (number c) 0 ≡ commandCode (number c)
+coded : (c : tie.In-loop invariant-loop decreases-loop) → get_or c.before.before.args.codes.now (number c) 0 ≡ command_code (number c)
 coded c = ap (λ (l : List ℕ). get_or l (number c) 0) c.before.before.requires.0 ∙ command-listed (number c)
 
 bound : (c : tie.In-loop invariant-loop decreases-loop) → c.before.loop.x < 2 ^ 40
@@ -86,7 +86,7 @@ returns : tie.Need-returns invariant-loop decreases-loop
 returns c =
     let a = c.before.before.args in
     let e : c.before.loop.j ≡ a.k = omega arith in
-    c.before.loop.invariant.1 ∙ ap (commandsNumber a.commands.now a.i) e
+    c.before.loop.invariant.1 ∙ ap (commands_number a.commands.now a.i) e
 
 pub commands-from-spec : {M : Type 1} → statement M
 commands-from-spec =

@@ -13,13 +13,13 @@ use Rattle.answer.specs.Answer.{Answer.accepted}
 use Rattle.answer.specs.Demand.{◌&◌}
 use Rattle.answer.specs.Demand.Stops.{found, later}
 use Rattle.answer.proofs.Chains.{passing, stopped}
-use Rattle.subframe.specs.Body.{evenBody}
-use Rattle.madi_write.specs.Writer.{channelWordDemands}
+use Rattle.subframe.specs.Body.{even_body}
+use Rattle.madi_write.specs.Writer.{channel_word_demands}
 use Rattle.madi_write.proofs.find_fault.Statement.{statement}
 use Rattle.madi_write.proofs.find_fault.Tie as tie
 
 abbrev invariant-loop : tie.invariant-loop
-invariant-loop words i₀ i = (i ≤ length words) × ((k : ℕ) → k < i → evenBody (get_or words k 0) ≡ true)
+invariant-loop words i₀ i = (i ≤ length words) × ((k : ℕ) → k < i → even_body (get_or words k 0) ≡ true)
 
 abbrev decreases-loop : tie.decreases-loop
 decreases-loop words i₀ i = length words - i
@@ -96,7 +96,7 @@ returns-3 c =
     let m = c.before in
     let l = m.before.before.loop in
     let w = m.before.before.before.before.args.words.now in
-    sym (passing (accepted tt) (channelWordDemands w) ((λ j a b. ap not (l.invariant.1 j (omega arith))) & (λ j a b. ap not (m.loop2.invariant.1 j (omega arith))) & tt))
+    sym (passing (accepted tt) (channel_word_demands w) ((λ j a b. ap not (l.invariant.1 j (omega arith))) & (λ j a b. ap not (m.loop2.invariant.1 j (omega arith))) & tt))
 
 pub find-fault-spec : {M : Type 1} → statement M
 find-fault-spec =

@@ -7,7 +7,7 @@ use native.Mathlib.Omega.{arith}
 use borrow.Author.Rules.{rules}
 use lib.ListN.{length}
 use Rattle.bits.specs.Row.{big}
-use Rattle.madi_code.specs.Channels.{channelRow}
+use Rattle.madi_code.specs.Channels.{channel_row}
 use Rattle.madi_code.proofs.TableLaws.{groups-sent, groups-send}
 use Rattle.madi_write.specs.Inner.{block_of, Passed}
 use Rattle.madi_write.proofs.Blocks.{first-level}
@@ -50,7 +50,7 @@ active-is c channels commands most =
     let p = c.before.before.before in
     let a = (start p).args in
     c.bits-by.ensures ∙ groups-sent _ c.before.sent_word.result (groups-send _ (start p).requires.0)
-    ∙ ap (λ (w : ℕ). big (channelRow w)) c.before.sent_word.ensures
+    ∙ ap (λ (w : ℕ). big (channel_row w)) c.before.sent_word.ensures
     ∙ active-block channels a.words.now commands a.level most p.loop.b c.before.before.loop-test.true
 
 lay-requires : tie.Need-lay-requires invariant-loop decreases-loop

@@ -6,7 +6,7 @@ use native.Mathlib.Omega.{arith}
 use borrow.Author.Rules.{rules}
 use lib.ListN.{length}
 use Rattle.bits.specs.Row.{big}
-use Rattle.madi_code.specs.Channels.{channelRow}
+use Rattle.madi_code.specs.Channels.{channel_row}
 use Rattle.madi_code.proofs.ChannelLaws.{idle-bits}
 use Rattle.madi_code.proofs.TableLaws.{groups-sent, groups-send}
 use Rattle.madi_write.specs.Inner.{Levels, LevelAt, Passed}
@@ -30,7 +30,7 @@ bits-by-requires : tie.Need-bits-by-requires invariant-loop decreases-loop
 bits-by-requires c κs = search rules
 
 -- what an inactive channel is
-idle-sent : (c : tie.After-bits-by invariant-loop decreases-loop) → c.bits-by.result ≡ big (channelRow 0)
+idle-sent : (c : tie.After-bits-by invariant-loop decreases-loop) → c.bits-by.result ≡ big (channel_row 0)
 idle-sent c = c.bits-by.ensures ∙ groups-sent _ 0 (groups-send _ c.before.before.before.requires.0)
 
 mul-levels-after : tie.Need-overflow-mul-levels-after invariant-loop decreases-loop
@@ -68,7 +68,7 @@ loop-again c =
     let p = c.before.before.before.before.before in
     let a = (start p).args in
     let y = p.before.levels-after.result in
-    let same : Levels (a.last * 2 ^ 40 + big (channelRow 0)) y =
+    let same : Levels (a.last * 2 ^ 40 + big (channel_row 0)) y =
     subst (λ (x : ℕ). Levels (a.last * 2 ^ 40 + x) y) (idle-sent p.before.before) p.before.levels-after.ensures in (
       omega arith,
       omega arith,

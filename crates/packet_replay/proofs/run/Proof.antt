@@ -5,7 +5,7 @@ use Prim.Native.Nat.{ℕ, ◌≤◌}
 use native.Mathlib.Omega.{arith}
 use lib.ListN.{length, drop, length-append}
 use lib.Seq.{length-take-le, length_front}
-use Rattle.records.specs.Head.{bodySize}
+use Rattle.records.specs.Head.{body_size}
 use Rattle.records.proofs.HeadLaws.{read_fits}
 use borrow.Author.Rules.{rules}
 use Rattle.packet_replay.proofs.run.Statement.{statement}
@@ -17,7 +17,7 @@ invariant-loop figures₀ head₀ body₀ left₀ figures head body left = (leng
 abbrev decreases-loop : tie.decreases-loop
 decreases-loop figures₀ head₀ body₀ left₀ figures head body left = left
 
-fits : (head : List ℕ) {size : ℕ} → size ≡ bodySize head → size ≤ 8192
+fits : (head : List ℕ) {size : ℕ} → size ≡ body_size head → size ≤ 8192
 fits head e = omega (arith, e, read_fits head)
 
 longer : (a b : List ℕ) {n : ℕ} → n ≤ length a → n ≤ length (a ++ b)

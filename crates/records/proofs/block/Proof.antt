@@ -1,9 +1,9 @@
 -- `records::block` meets its contract. Assumes nothing.
 use mathlib.Core.Path.{ap, ap₂, ◌∙◌}
 use Prim.Native.Nat.{ℕ}
-use Rattle.aes3_read.specs.Reader.{readAnswer, crccs}
+use Rattle.aes3_read.specs.Reader.{read_answer, crccs}
 use Rattle.answer.specs.Answer.{mapped}
-use Rattle.records.specs.Record.{blockContent, blockRecord}
+use Rattle.records.specs.Record.{block_content, block_record}
 use borrow.Author.Rules.{rules}
 use Rattle.records.proofs.block.Statement.{statement}
 use Rattle.records.proofs.block.Tie as tie
@@ -27,15 +27,15 @@ of-block-requires : tie.Need-of-block-requires
 of-block-requires c κs = search rules
 
 returns : tie.Need-returns
-unfolding blockRecord
+unfolding block_record
 returns c =
     let r = c.before.before.before in
     let side = r.before.before.before in
     let samples = side.before in
     c.of-block.ensures
-    ∙ ap (mapped blockContent)
+    ∙ ap (mapped block_content)
     (r.read-block.ensures.0
-    ∙ ap₂ (λ (m n : ℕ). mapped crccs (readAnswer samples.before.before.args.line.now m n)) samples.no-samples.ensures side.no-side.ensures)
+    ∙ ap₂ (λ (m n : ℕ). mapped crccs (read_answer samples.before.before.args.line.now m n)) samples.no-samples.ensures side.no-side.ensures)
 
 pub block_spec : {M : Type 1} → statement M
 block_spec =

@@ -6,25 +6,25 @@ use native.Mathlib.Omega.{arith}
 use borrow.Author.Rules.{rules}
 use lib.ListN.{length, get_or, set}
 use Rattle.bits.proofs.Filling.{over, over-next, over-all}
-use Rattle.records.specs.Record.{bigEndian}
+use Rattle.records.specs.Record.{big_endian}
 use Rattle.records.proofs.RecordLaws.{length-words, word_at, filled-words, unfilled}
 use Rattle.records.proofs.fill_words.Statement.{statement}
 use Rattle.records.proofs.fill_words.Tie as tie
 
 abbrev invariant-loop : tie.invariant-loop
 invariant-loop octets words₀ i₀ words i =
-    (length octets ≡ length words₀ * 2) × (i ≤ length words₀) × (length words ≡ length words₀) × (words ≡ over i (bigEndian octets) words₀)
+    (length octets ≡ length words₀ * 2) × (i ≤ length words₀) × (length words ≡ length words₀) × (words ≡ over i (big_endian octets) words₀)
 
 abbrev decreases-loop : tie.decreases-loop
 decreases-loop octets words₀ i₀ words i = length words₀ - i
 
 -- one word more
 word_more : (octets old : List ℕ) (i : ℕ) {words : List ℕ} {v : ℕ} → length octets ≡ length old * 2 → i < length old
-    → words ≡ over i (bigEndian octets) old → v ≡ get_or octets (i * 2) 0 * 256 + get_or octets (i * 2 + 1) 0
-    → set words i v ≡ over (i + 1) (bigEndian octets) old
+    → words ≡ over i (big_endian octets) old → v ≡ get_or octets (i * 2) 0 * 256 + get_or octets (i * 2 + 1) 0
+    → set words i v ≡ over (i + 1) (big_endian octets) old
 word_more octets old i h l done e =
     ap₂ (λ (ws : List ℕ) (x : ℕ). set ws i x) done (e ∙ word_at (length old) octets i h l)
-    ∙ over-next i (bigEndian octets) old 0 (omega (arith, length-words (length old) octets h)) (omega arith)
+    ∙ over-next i (big_endian octets) old 0 (omega (arith, length-words (length old) octets h)) (omega arith)
 
 -- octets that are not just so many
 odd : (n m : ℕ) → (n % 2 ≡ 0 → ⊥) → n ≡ m * 2 → ⊥
@@ -94,7 +94,7 @@ returns-3 c =
     let l = c.before.loop in
     let a = c.before.before.before.before.before.before.args in
     l.invariant.3
-    ∙ over-all l.i (bigEndian a.octets.now) a.words.now
+    ∙ over-all l.i (big_endian a.octets.now) a.words.now
     (omega (arith, length-words (length a.words.now) a.octets.now l.invariant.0)) (omega arith)
     ∙ sym (filled-words a.octets.now a.words.now l.invariant.0)
 

@@ -10,21 +10,21 @@ use Rattle.answer.specs.Answer.{mapped}
 use Rattle.answer.specs.Demand.{◌&◌}
 use Rattle.answer.specs.Demand.Stops.{fails}
 use Rattle.answer.proofs.Chains.{passing, stopped}
-use Rattle.madi_read.specs.Reader.{frameRead, countsOf}
-use Rattle.records.specs.Record.{frameContent, frameDemands, frameRecord}
+use Rattle.madi_read.specs.Reader.{frame_read, counts_of}
+use Rattle.records.specs.Record.{frame_content, frame_demands, frame_record}
 use Rattle.records.proofs.RecordLaws.{to_the_end}
 use Rattle.records.proofs.frame.Statement.{statement}
 use Rattle.records.proofs.frame.Tie as tie
 
 -- the frame of numbers that the code took out of the octets
 framed : (s : List ℕ) {a l b n m : ℕ} {line : List ℕ} → 4 ≤ length s → a ≡ get_or s 0 0 → l ≡ get_or s 1 0
-    → b ≡ get_or s 2 0 * 256 + get_or s 3 0 → line ≡ drop 4 s → n ≡ a → m ≡ 255 → mapped frameContent (mapped countsOf (frameRead a l b line n m)) ≡ frameRecord s
-unfolding frameRecord
+    → b ≡ get_or s 2 0 * 256 + get_or s 3 0 → line ≡ drop 4 s → n ≡ a → m ≡ 255 → mapped frame_content (mapped counts_of (frame_read a l b line n m)) ≡ frame_record s
+unfolding frame_record
 framed s h ea el eb ed en em =
-    rw (en, ea, el, eb, ed, em) (sym (passing _ (frameDemands s) (le-leb 4 (length s) h & tt)))
+    rw (en, ea, el, eb, ed, em) (sym (passing _ (frame_demands s) (le-leb 4 (length s) h & tt)))
 
 returns : tie.Need-returns
-unfolding frameRecord
+unfolding frame_record
 returns c = sym (stopped _ (fails (lt-leb _ _ c.if1.true)))
 
 shared-slice-read-octet : tie.Need-shared-slice-read-octet
@@ -98,7 +98,7 @@ returns-2 c =
     let e = count.before.before in
     let s = e.before.before.args.octets.now in
     c.of-frame.ensures
-    ∙ ap (mapped frameContent) r.read-frame.ensures.0
+    ∙ ap (mapped frame_content) r.read-frame.ensures.0
     ∙ framed s e.if1.false count.octet.ensures.0 level.octet2.ensures.0 p.big_endian.ensures (to_the_end 4 s)
     (length-take-le _ _ (search rules)) n.no-commands.ensures
 

@@ -6,19 +6,19 @@ use native.Mathlib.Omega.{arith}
 use borrow.Author.Rules.{rules}
 use lib.ListN.{length, drop}
 use Rattle.answer.specs.Answer.{Answer.accepted}
-use Rattle.answer.specs.Said.{numberSaid}
+use Rattle.answer.specs.Said.{number_said}
 use Rattle.answer.specs.declared.NumberAnswer.{NumberAnswer}
 use Rattle.answer.specs.declared.NumberAnswer.TheVariants.{Number}
-use Rattle.records.specs.Record.{outcomeSaid, kind_of, by_kind}
+use Rattle.records.specs.Record.{outcome_said, kind_of, by_kind}
 use Rattle.records.proofs.RecordLaws.{to_the_end, kind-refused, kind-within, kind-known}
 use Rattle.records.proofs.judge.Statement.{statement}
 use Rattle.records.proofs.judge.Tie as tie
 
 -- a number that the code has is the kind
-known : (body : List ℕ) {a : NumberAnswer} {k : ℕ} → numberSaid a ≡ kind_of body → a ≡ Number k → kind_of body ≡ accepted k
-known body s e = sym s ∙ ap numberSaid e
+known : (body : List ℕ) {a : NumberAnswer} {k : ℕ} → number_said a ≡ kind_of body → a ≡ Number k → kind_of body ≡ accepted k
+known body s e = sym s ∙ ap number_said e
 
-within : (body : List ℕ) {a : NumberAnswer} {k : ℕ} → numberSaid a ≡ kind_of body → a ≡ Number k → 2 ≤ length body
+within : (body : List ℕ) {a : NumberAnswer} {k : ℕ} → number_said a ≡ kind_of body → a ≡ Number k → 2 ≤ length body
 within body {k = k} s e = kind-within body k (known body s e)
 
 kind-of-requires : tie.Need-kind-of-requires
@@ -56,7 +56,7 @@ module _ (c : tie.After-by-kind) where
   abbrev kind : ℕ
   kind = c.before.before.before.kind.given.0.0
 
-  of-payload : outcomeSaid c.by-kind.result ≡ by_kind kind (drop 2 body)
+  of-payload : outcome_said c.by-kind.result ≡ by_kind kind (drop 2 body)
   of-payload = c.by-kind.ensures ∙ ap (by_kind kind) (to_the_end 2 body)
 
 returns : tie.Need-returns
@@ -68,7 +68,7 @@ returns-2 : tie.Need-returns-2
 returns-2 c =
     let k = c.before in
     let q = k.before.before in
-    sym (kind-refused q.before.before.args.body.now _ _ (sym q.kind-of.ensures ∙ ap numberSaid k.number.given.1))
+    sym (kind-refused q.before.before.args.body.now _ _ (sym q.kind-of.ensures ∙ ap number_said k.number.given.1))
 
 pub judge-spec : {M : Type 1} → statement M
 judge-spec =

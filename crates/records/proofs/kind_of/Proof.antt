@@ -6,7 +6,7 @@ use borrow.Author.Tests.{lt-leb, le-leb, eq-eqb, ne_eqb}
 use Rattle.answer.specs.Demand.{◌&◌}
 use Rattle.answer.specs.Demand.Stops.{fails, later}
 use Rattle.answer.proofs.Chains.{passing, stopped}
-use Rattle.records.specs.Record.{kindDemands, kind_of}
+use Rattle.records.specs.Record.{kind_demands, kind_of}
 use Rattle.records.proofs.kind_of.Statement.{statement}
 use Rattle.records.proofs.kind_of.Tie as tie
 
@@ -32,7 +32,7 @@ unfolding kind_of
 returns-3 c =
     let v = c.before in
     let e = v.before.before in
-    sym (passing _ (kindDemands e.before.args.body.now) (le-leb _ _ e.if1.false & eq-eqb _ _ v.if2.false & tt))
+    sym (passing _ (kind_demands e.before.args.body.now) (le-leb _ _ e.if1.false & eq-eqb _ _ v.if2.false & tt))
 
 pub kind-of-spec : {M : Type 1} → statement M
 kind-of-spec =

@@ -1,5 +1,5 @@
 -- `report::end_replay` meets its contract. Assumes nothing.
-use Rattle.report.specs.Night.{figuresText}
+use Rattle.report.specs.Night.{figures_text}
 use Rattle.report.proofs.TextLaws.{put_then, put-start, put_all}
 use borrow.Author.Rules.{rules}
 use Rattle.report.proofs.end_replay.Statement.{statement}
@@ -24,7 +24,7 @@ put-lines-requires-4 : tie.Need-put-lines-requires-4
 put-lines-requires-4 c κs = search rules
 
 returns : tie.Need-returns
-unfolding figuresText
+unfolding figures_text
 returns c =
     let two = c.before.before in
     let three = two.before.before in

@@ -1,8 +1,8 @@
 -- `report::print` meets its contract. Assumes nothing.
 use mathlib.Core.List.{[]}
 use Rattle.answer.specs.Answer.{Answer.refused}
-use Rattle.report.specs.Text.{cutLine, line_of}
-use Rattle.report.specs.Report.{going, printedFor}
+use Rattle.report.specs.Text.{cut_line, line_of}
+use Rattle.report.specs.Report.{going, printed_for}
 use Rattle.report.proofs.Steps.{prints-turn, ends}
 use borrow.Author.Rules.{rules}
 use Rattle.report.proofs.print.Statement.{statement}
@@ -36,7 +36,7 @@ print-record-requires : tie.Need-print-record-requires
 print-record-requires c κs = search rules
 
 returns : tie.Need-returns
-unfolding printedFor
+unfolding printed_for
 returns c =
     let k = c.before.before.before in
     let t = k.before.before in
@@ -45,16 +45,16 @@ returns c =
     (ends k.count.given.0.0 [] s.out.now c.count-line.ensures)
 
 returns-2 : tie.Need-returns-2
-unfolding printedFor
+unfolding printed_for
 returns-2 c =
     let k = c.before.before.before in
     let t = k.before.before in
     let s = t.before.before.before.args in
     prints-turn s.n s.head.now s.body.now s.out.now t.turn-after.ensures k.count2.given.1
-    (ends k.count2.given.0.0 cutLine s.out.now c.cut_short.ensures)
+    (ends k.count2.given.0.0 cut_line s.out.now c.cut_short.ensures)
 
 returns-3 : tie.Need-returns-3
-unfolding printedFor
+unfolding printed_for
 returns-3 c =
     let k = c.before.before.before in
     let t = k.before.before in
@@ -63,7 +63,7 @@ returns-3 c =
     (ends k.count3.given.0.0 (line_of k.count3.given.0.0 (refused 2 0)) s.out.now c.too_long.ensures)
 
 returns-4 : tie.Need-returns-4
-unfolding printedFor going
+unfolding printed_for going
 returns-4 c =
     let k = c.before.before.before in
     let t = k.before.before in

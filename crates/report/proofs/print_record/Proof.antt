@@ -1,5 +1,5 @@
 -- `report::print_record` meets its contract. Assumes nothing.
-use Rattle.records.specs.Record.{recordAnswer}
+use Rattle.records.specs.Record.{record_answer}
 use Rattle.report.specs.Text.{line_of}
 use Rattle.report.specs.Report.{going}
 use Rattle.report.proofs.TextLaws.{put-start, put_all}
@@ -20,7 +20,7 @@ returns c =
     let j = c.before in
     let s = j.before.before.before.args in
     let put = rw j.judge.ensures at c.put-line.ensures in
-    goes s.n (line_of s.n (recordAnswer s.body.now)) s.out.now (put-start (search rules) put, put_all (search rules) put)
+    goes s.n (line_of s.n (record_answer s.body.now)) s.out.now (put-start (search rules) put, put_all (search rules) put)
 
 pub print-record-spec : {M : Type 1} → statement M
 print-record-spec = tie.close (tie.spec judge-requires put-line-requires returns)

@@ -1,5 +1,5 @@
 -- `report::put_count` meets its contract. Assumes nothing.
-use Rattle.report.specs.Text.{countLine}
+use Rattle.report.specs.Text.{count_line}
 use borrow.Author.Rules.{rules}
 use Rattle.report.proofs.put_count.Statement.{statement}
 use Rattle.report.proofs.put_count.Tie as tie
@@ -14,7 +14,7 @@ same_length : tie.Need-same-length
 same_length c = search rules
 
 returns : tie.Need-returns
-unfolding countLine
+unfolding count_line
 returns c = (c.before.before.put-single.ensures.0, search rules)
 
 pub put-count-spec : {M : Type 1} → statement M

@@ -1,7 +1,7 @@
 -- `report::put_end` meets its contract. Assumes nothing.
 use mathlib.Core.Path.{sym, ap}
 use native.Mathlib.Omega.{arith}
-use Rattle.report.specs.Night.{endText}
+use Rattle.report.specs.Night.{end_text}
 use Rattle.report.proofs.TextLaws.{put_as}
 use borrow.Author.Rules.{rules}
 use Rattle.report.proofs.put_end.Statement.{statement}
@@ -56,51 +56,51 @@ same_length : tie.Need-same-length
 same_length c = search rules
 
 returns : tie.Need-returns
-unfolding endText
+unfolding end_text
 returns c =
     let p = c.before.before in
     let o = p.before.before.before in
-    (put_as (sym (ap endText o.enum_told.given.1)) p.put.ensures, omega (arith, p.put.ensures.ends))
+    (put_as (sym (ap end_text o.enum_told.given.1)) p.put.ensures, omega (arith, p.put.ensures.ends))
 
 same-length-2 : tie.Need-same-length-2
 same-length-2 c = search rules
 
 returns-2 : tie.Need-returns-2
-unfolding endText
+unfolding end_text
 returns-2 c =
     let p = c.before.before in
     let o = p.before.before.before in
-    (put_as (sym (ap endText o.enum-told2.given.1)) p.put2.ensures, omega (arith, p.put2.ensures.ends))
+    (put_as (sym (ap end_text o.enum-told2.given.1)) p.put2.ensures, omega (arith, p.put2.ensures.ends))
 
 same-length-3 : tie.Need-same-length-3
 same-length-3 c = search rules
 
 returns-3 : tie.Need-returns-3
-unfolding endText
+unfolding end_text
 returns-3 c =
     let p = c.before.before in
     let o = p.before.before.before in
-    (put_as (sym (ap endText o.enum-told3.given.1)) p.put3.ensures, omega (arith, p.put3.ensures.ends))
+    (put_as (sym (ap end_text o.enum-told3.given.1)) p.put3.ensures, omega (arith, p.put3.ensures.ends))
 
 same-length-4 : tie.Need-same-length-4
 same-length-4 c = search rules
 
 returns-4 : tie.Need-returns-4
-unfolding endText
+unfolding end_text
 returns-4 c =
     let p = c.before.before in
     let o = p.before.before.before in
-    (put_as (sym (ap endText o.enum-told4.given.1)) p.put4.ensures, omega (arith, p.put4.ensures.ends))
+    (put_as (sym (ap end_text o.enum-told4.given.1)) p.put4.ensures, omega (arith, p.put4.ensures.ends))
 
 same-length-5 : tie.Need-same-length-5
 same-length-5 c = search rules
 
 returns-5 : tie.Need-returns-5
-unfolding endText
+unfolding end_text
 returns-5 c =
     let p = c.before.before in
     let o = p.before.before.before in
-    (put_as (sym (ap endText o.enum-told5.given.1)) p.put5.ensures, omega (arith, p.put5.ensures.ends))
+    (put_as (sym (ap end_text o.enum-told5.given.1)) p.put5.ensures, omega (arith, p.put5.ensures.ends))
 
 pub put-end-spec : {M : Type 1} → statement M
 put-end-spec =

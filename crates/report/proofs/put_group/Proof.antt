@@ -1,6 +1,6 @@
 -- `report::put_group` meets its contract. Assumes nothing.
-use Rattle.report.specs.Night.{groupLine}
-use Rattle.report.specs.Inner.{tailText}
+use Rattle.report.specs.Night.{group_line}
+use Rattle.report.specs.Inner.{tail_text}
 use Rattle.report.proofs.TextLaws.{put_then}
 use borrow.Author.Rules.{rules}
 use Rattle.report.proofs.put_group.Statement.{statement}
@@ -49,7 +49,7 @@ same_length : tie.Need-same-length
 same_length c = search rules
 
 returns : tie.Need-returns
-unfolding groupLine tailText
+unfolding group_line tail_text
 returns c =
     let name = c.before.before in
     let read = name.before.before.before.before in

@@ -1,7 +1,7 @@
 -- `report::put_last` meets its contract. Assumes nothing.
 use native.Mathlib.Omega.{arith}
 use borrow.Author.Tests.{eq-eqb, ne_eqb}
-use Rattle.report.specs.Night.{lastText}
+use Rattle.report.specs.Night.{last_text}
 use Rattle.report.proofs.TextLaws.{put_as}
 use borrow.Author.Rules.{rules}
 use Rattle.report.proofs.put_last.Statement.{statement}
@@ -17,7 +17,7 @@ same_length : tie.Need-same-length
 same_length c = search rules
 
 returns : tie.Need-returns
-unfolding lastText
+unfolding last_text
 returns c =
     let put = c.before.before in
     (put_as (rw (eq-eqb _ 0 put.before.before.before.if1.true)) put.put.ensures, omega (arith, put.put.ensures.ends))
@@ -32,7 +32,7 @@ same-length-2 : tie.Need-same-length-2
 same-length-2 c = search rules
 
 returns-2 : tie.Need-returns-2
-unfolding lastText
+unfolding last_text
 returns-2 c =
     let put = c.before.before in
     (put_as (rw (ne_eqb _ 0 put.before.before.before.if1.false)) put.put-field.ensures.0, search rules)

@@ -1,5 +1,5 @@
 -- `report::put_lines` meets its contract. Assumes nothing.
-use Rattle.report.specs.Night.{groupLines}
+use Rattle.report.specs.Night.{group_lines}
 use Rattle.report.proofs.TextLaws.{put_then}
 use borrow.Author.Rules.{rules}
 use Rattle.report.proofs.put_lines.Statement.{statement}
@@ -15,7 +15,7 @@ same_length : tie.Need-same-length
 same_length c = search rules
 
 returns : tie.Need-returns
-unfolding groupLines
+unfolding group_lines
 returns c =
     let group = c.before.before in
     let refusals = group.before.before.before.before in

@@ -1,8 +1,8 @@
 -- `report::put_outcome` meets its contract. Assumes nothing.
 use mathlib.Core.Path.{sym, ap}
-use Rattle.records.specs.Record.{outcomeSaid}
+use Rattle.records.specs.Record.{outcome_said}
 use Rattle.records.specs.declared.Outcome.{Outcome}
-use Rattle.report.specs.Text.{answerText}
+use Rattle.report.specs.Text.{answer_text}
 use Rattle.report.proofs.TextLaws.{put_as}
 use borrow.Author.Rules.{rules}
 use Rattle.report.proofs.put_outcome.Statement.{statement}
@@ -60,51 +60,51 @@ same_length : tie.Need-same-length
 same_length c = search rules
 
 returns : tie.Need-returns
-unfolding answerText
+unfolding answer_text
 returns c =
     let p = c.before.before in
     let o = p.before.before.before.before in
-    (put_as (sym (ap (λ (x : Outcome). answerText (outcomeSaid x)) o.o.given.1)) p.put-pair.ensures.0, search rules)
+    (put_as (sym (ap (λ (x : Outcome). answer_text (outcome_said x)) o.o.given.1)) p.put-pair.ensures.0, search rules)
 
 same-length-2 : tie.Need-same-length-2
 same-length-2 c = search rules
 
 returns-2 : tie.Need-returns-2
-unfolding answerText
+unfolding answer_text
 returns-2 c =
     let p = c.before.before in
     let o = p.before.before.before.before in
-    (put_as (sym (ap (λ (x : Outcome). answerText (outcomeSaid x)) o.o2.given.1)) p.put-pair2.ensures.0, search rules)
+    (put_as (sym (ap (λ (x : Outcome). answer_text (outcome_said x)) o.o2.given.1)) p.put-pair2.ensures.0, search rules)
 
 same-length-3 : tie.Need-same-length-3
 same-length-3 c = search rules
 
 returns-3 : tie.Need-returns-3
-unfolding answerText
+unfolding answer_text
 returns-3 c =
     let p = c.before.before in
     let o = p.before.before.before.before in
-    (put_as (sym (ap (λ (x : Outcome). answerText (outcomeSaid x)) o.o3.given.1)) p.put-pair3.ensures.0, search rules)
+    (put_as (sym (ap (λ (x : Outcome). answer_text (outcome_said x)) o.o3.given.1)) p.put-pair3.ensures.0, search rules)
 
 same-length-4 : tie.Need-same-length-4
 same-length-4 c = search rules
 
 returns-4 : tie.Need-returns-4
-unfolding answerText
+unfolding answer_text
 returns-4 c =
     let p = c.before.before in
     let o = p.before.before.before.before in
-    (put_as (sym (ap (λ (x : Outcome). answerText (outcomeSaid x)) o.o4.given.1)) p.put-single.ensures.0, search rules)
+    (put_as (sym (ap (λ (x : Outcome). answer_text (outcome_said x)) o.o4.given.1)) p.put-single.ensures.0, search rules)
 
 same-length-5 : tie.Need-same-length-5
 same-length-5 c = search rules
 
 returns-5 : tie.Need-returns-5
-unfolding answerText
+unfolding answer_text
 returns-5 c =
     let p = c.before.before in
     let o = p.before.before.before.before in
-    (put_as (sym (ap (λ (x : Outcome). answerText (outcomeSaid x)) o.o5.given.1)) p.put-pair4.ensures.0, search rules)
+    (put_as (sym (ap (λ (x : Outcome). answer_text (outcome_said x)) o.o5.given.1)) p.put-pair4.ensures.0, search rules)
 
 pub put-outcome-spec : {M : Type 1} → statement M
 put-outcome-spec =

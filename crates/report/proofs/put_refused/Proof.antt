@@ -1,7 +1,7 @@
 -- `report::put_refused` meets its contract. Assumes nothing.
 use mathlib.Core.Path.{sym, ◌∙◌}
 use borrow.Author.Tests.{eq-eqb}
-use Rattle.report.specs.Night.{refusedLine}
+use Rattle.report.specs.Night.{refused_line}
 use Rattle.report.proofs.TextLaws.{put-nothing, put_then, put_as}
 use Rattle.report.proofs.NightLaws.{refused-some}
 use borrow.Author.Rules.{rules}
@@ -12,7 +12,7 @@ refused-count-requires : tie.Need-refused-count-requires
 refused-count-requires c κs = search rules
 
 returns : tie.Need-returns
-unfolding refusedLine
+unfolding refused_line
 returns c =
     (put_as (rw (eq-eqb _ 0 (sym c.before.refused-count.ensures ∙ c.if1.true))) (put-nothing _ _), search rules)
 

@@ -1,8 +1,8 @@
 -- `report::put_tail` meets its contract. Assumes nothing.
 use mathlib.Core.Path.{ap}
-use Rattle.report.specs.Text.{singleText}
-use Rattle.report.specs.Night.{breaksWord}
-use Rattle.report.specs.Inner.{tailText}
+use Rattle.report.specs.Text.{single_text}
+use Rattle.report.specs.Night.{breaks_word}
+use Rattle.report.specs.Inner.{tail_text}
 use Rattle.report.proofs.TextLaws.{put_then, put_as}
 use borrow.Author.Rules.{rules}
 use Rattle.report.proofs.put_tail.Statement.{statement}
@@ -51,11 +51,11 @@ same_length : tie.Need-same-length
 same_length c = search rules
 
 returns : tie.Need-returns
-unfolding tailText
+unfolding tail_text
 returns c =
     let last = c.before.before in
     let breaks = last.before.before.before.before in
-    let end = put_as (ap (singleText breaksWord) breaks.before.wide.ensures) breaks.put-single.ensures.0 in
+    let end = put_as (ap (single_text breaks_word) breaks.before.wide.ensures) breaks.put-single.ensures.0 in
     (put_then end last.put_last.ensures.0, search rules)
 
 pub put-tail-spec : {M : Type 1} → statement M

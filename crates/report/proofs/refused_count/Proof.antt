@@ -1,6 +1,6 @@
 -- `report::refused_count` meets its contract. Assumes nothing.
 use borrow.Author.Tests.{eq-eqb, ne_eqb}
-use Rattle.report.specs.Night.{refusedCount}
+use Rattle.report.specs.Night.{refused_count}
 use borrow.Author.Rules.{rules}
 use Rattle.report.proofs.refused_count.Statement.{statement}
 use Rattle.report.proofs.refused_count.Tie as tie
@@ -15,7 +15,7 @@ element-copy-out-result : tie.Need-element-copy-out-result
 element-copy-out-result c = search rules
 
 returns : tie.Need-returns
-unfolding refusedCount
+unfolding refused_count
 returns c = rw (eq-eqb _ 0 c.before.if1.true)
 
 sub-result : tie.Need-overflow-sub-result
@@ -37,7 +37,7 @@ element-copy-out-result-2 : tie.Need-element-copy-out-result-2
 element-copy-out-result-2 c = search rules
 
 returns-2 : tie.Need-returns-2
-unfolding refusedCount
+unfolding refused_count
 returns-2 c = rw (ne_eqb _ 0 c.before.if1.false)
 
 pub refused-count-spec : {M : Type 1} → statement M

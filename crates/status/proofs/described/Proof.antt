@@ -4,7 +4,7 @@ use mathlib.Core.Path.{sym, ap, ◌∙◌}
 use Prim.Native.Nat.{ℕ, ◌/◌, ◌%◌}
 use native.Mathlib.Nat.{div-one}
 use borrow.Author.Rules.{rules}
-use Rattle.status.specs.Meaning.{mode_of, auxiliaryOf, wordLengthOf, describedBy}
+use Rattle.status.specs.Meaning.{mode_of, auxiliary_of, word_length_of, described_by}
 use Rattle.status.specs.declared.Auxiliary.{Auxiliary}
 use Rattle.status.proofs.described.Statement.{statement}
 use Rattle.status.proofs.described.Tie as tie
@@ -34,7 +34,7 @@ alignment-of-requires : tie.Need-alignment-of-requires
 alignment-of-requires c κs = search rules
 
 returns : tie.Need-returns
-unfolding describedBy
+unfolding described_by
 returns c =
     let word = c.before in
     let user = word.before in
@@ -44,7 +44,7 @@ returns c =
     let emphasis = lock.before in
     let auxiliary = emphasis.before in
     let bytes = auxiliary.before.args in
-    let aux = auxiliary.auxiliary-of.ensures ∙ ap (λ (x : ℕ). auxiliaryOf (x % 8)) (sym (div-one bytes.byte2)) in
+    let aux = auxiliary.auxiliary-of.ensures ∙ ap (λ (x : ℕ). auxiliary_of (x % 8)) (sym (div-one bytes.byte2)) in
     λ i. record {
       emphasis = emphasis.emphasis-of.ensures i;
       lock = lock.lock-of.ensures i;
@@ -52,7 +52,7 @@ returns c =
       mode = (mode.Mode-of.ensures ∙ ap (λ (x : ℕ). mode_of (x % 16)) (sym (div-one bytes.byte1))) i;
       user = user.user-of.ensures i;
       auxiliary = aux i;
-      word_length = (word.word-length-of.ensures ∙ ap (λ (a : Auxiliary). wordLengthOf a (bytes.byte2 / 8 % 8)) aux) i;
+      word_length = (word.word-length-of.ensures ∙ ap (λ (a : Auxiliary). word_length_of a (bytes.byte2 / 8 % 8)) aux) i;
       alignment = c.alignment-of.ensures i;
     }
 

@@ -2,7 +2,7 @@
 -- Assumes nothing.
 use mathlib.Core.Path.{sym, ap, ◌∙◌}
 use borrow.Author.Rules.{rules}
-use Rattle.status.specs.Numbers.{numbersOf}
+use Rattle.status.specs.Numbers.{numbers_of}
 use Rattle.status.specs.declared.Use.TheVariants.{Professional}
 use Rattle.status.proofs.meaning_numbers.Statement.{statement}
 use Rattle.status.proofs.meaning_numbers.Tie as tie
@@ -32,22 +32,22 @@ numbers-by-requires-2 : tie.Need-numbers-by-requires-2
 numbers-by-requires-2 c κs = search rules
 
 returns : tie.Need-returns
-unfolding numbersOf
-returns c = c.consumer.ensures ∙ ap numbersOf (sym c.before.enum_told.given.1 ∙ c.before.before.before.meaning.ensures)
+unfolding numbers_of
+returns c = c.consumer.ensures ∙ ap numbers_of (sym c.before.enum_told.given.1 ∙ c.before.before.before.meaning.ensures)
 
 returns-2 : tie.Need-returns-2
-unfolding numbersOf
+unfolding numbers_of
 returns-2 c =
     let m = c.before.before.before.before.before in
     c.numbers-by.ensures
-    ∙ ap numbersOf (sym (m.audio.given.1 ∙ ap Professional c.before.before.audio2.given.1) ∙ m.before.before.meaning.ensures)
+    ∙ ap numbers_of (sym (m.audio.given.1 ∙ ap Professional c.before.before.audio2.given.1) ∙ m.before.before.meaning.ensures)
 
 returns-3 : tie.Need-returns-3
-unfolding numbersOf
+unfolding numbers_of
 returns-3 c =
     let m = c.before.before.before.before.before in
     c.numbers-by2.ensures
-    ∙ ap numbersOf (sym (m.audio.given.1 ∙ ap Professional c.before.before.audio3.given.1) ∙ m.before.before.meaning.ensures)
+    ∙ ap numbers_of (sym (m.audio.given.1 ∙ ap Professional c.before.before.audio3.given.1) ∙ m.before.before.meaning.ensures)
 
 pub meaning-numbers-spec : {M : Type 1} → statement M
 meaning-numbers-spec =

@@ -1,7 +1,7 @@
 -- `status::numbers_by` meets its contract, field by field.
 -- Assumes nothing.
 use borrow.Author.Rules.{rules}
-use Rattle.status.specs.Numbers.{numbersBy}
+use Rattle.status.specs.Numbers.{numbers_by}
 use Rattle.status.proofs.numbers_by.Statement.{statement}
 use Rattle.status.proofs.numbers_by.Tie as tie
 
@@ -30,7 +30,7 @@ alignment-number-requires : tie.Need-alignment-number-requires
 alignment-number-requires c κs = search rules
 
 returns : tie.Need-returns
-unfolding numbersBy
+unfolding numbers_by
 returns c =
     let word = c.before in
     let auxiliary = word.before in

@@ -10,7 +10,7 @@ use mir.Syntax.{w32}
 use mir.Val.{SFits, to_z, of_z}
 use mir.Facts.{to_z-of_z, to_z_pos}
 use Rattle.subframe.specs.Signed.{code_of}
-use Rattle.talkback.specs.Talkback.{main, sampleWith}
+use Rattle.talkback.specs.Talkback.{main, sample_with}
 use Rattle.talkback.proofs.Samples.{removed, kept_in}
 use Rattle.talkback.proofs.cleared.Statement.{statement}
 use Rattle.talkback.proofs.cleared.Tie as tie
@@ -25,13 +25,13 @@ module _ (c : tie.After-code) where
   got : c.code.result ≡ code_of 24 z
   got = rw held at c.code.ensures
 
-  difference : to_z w32 (of_z w32 z) -ℤ to_z w32 (c.code.result % 16) ≡ sampleWith (main z) 0
+  difference : to_z w32 (of_z w32 z) -ℤ to_z w32 (c.code.result % 16) ≡ sample_with (main z) 0
   difference =
       ap₂ ◌-ℤ◌ held (to_z_pos w32 {n = c.code.result % 16} (omega arith) ∙ ap (λ (n : ℕ). pos (n % 16)) got) ∙ removed z c.before.requires
 
   fits : SFits w32 (to_z w32 (of_z w32 z) -ℤ to_z w32 (c.code.result % 16))
   fits =
-      let y = sampleWith (main z) 0 in
+      let y = sample_with (main z) 0 in
       let l : mag y < 2 ^ 23 = ltb-true (mag y) (2 ^ 23) (kept_in z c.before.requires 0 (omega arith)) in
       subst⁻¹ (SFits w32) difference (record { sfits = omega arith })
 

@@ -6,7 +6,7 @@ use native.Mathlib.Omega.{arith}
 use borrow.Author.Rules.{rules}
 use lib.Dec.{eqb}
 use lib.ListN.{get_or}
-use Rattle.block.specs.Check.{statusOf}
+use Rattle.block.specs.Check.{status_of}
 use Rattle.block.proofs.CheckLaws.{status-octet}
 use Rattle.talkback.specs.Talkback.{undeclared}
 use Rattle.talkback.proofs.is_undeclared.Statement.{statement}
@@ -30,7 +30,7 @@ shared-slice-read-result c = search rules
 returns : tie.Need-returns
 unfolding undeclared
 returns c =
-    let byte = get_or (statusOf c.before.args.channel c.before.args.side.now) 2 0 in
+    let byte = get_or (status_of c.before.args.channel c.before.args.side.now) 2 0 in
     let low : byte % 8 ≡ byte / 1 % 8 = omega arith in
     ap (λ (n : ℕ). not (eqb (n % 8) 2)) (sym (status-octet c.before.args.side.now c.before.args.channel 2 (omega arith)))
     ∙ ap (λ (n : ℕ). not (eqb n 2)) low

@@ -9,12 +9,12 @@ use borrow.Author.Tests.{eqb-true}
 use lib.IntN.{ℤ}
 use lib.ListN.{length}
 use Rattle.answer.specs.Answer.{Answer.accepted, Answer.refused}
-use Rattle.answer.specs.Demand.{Demand, Demand.findsNone, provided, AllMet, ◌&◌}
+use Rattle.answer.specs.Demand.{Demand, Demand.finds_none, provided, AllMet, ◌&◌}
 use Rattle.answer.specs.Demand.Stops.{later}
-use Rattle.answer.specs.Said.{verdictSaid}
+use Rattle.answer.specs.Said.{verdict_said}
 use Rattle.answer.proofs.Chains.{met, stops, extended, found_from, none_from, found_here, none_here, further, all_of}
 use Rattle.answer.proofs.Residues.{shows-refusal, shows-acceptance}
-use Rattle.talkback.specs.Talkback.{unfit, voiceOutside, useDemands, voiceJoinAnswer}
+use Rattle.talkback.specs.Talkback.{unfit, voice_outside, use_demands, voice_join_answer}
 use Rattle.talkback.specs.Inner.{unfitting}
 use Rattle.talkback.proofs.Blocks.{length-with}
 use Rattle.talkback.proofs.Demands.{unfit-is, voice-is, fit-programs, fit-voice}
@@ -32,11 +32,11 @@ module _ (c : tie.After-check-use) where
   voice = start.args.voice.now
 
   abbrev uses : List Demand
-  uses = useDemands (length program) (length voice) start.args.side.now (length start.args.samples.now)
+  uses = use_demands (length program) (length voice) start.args.side.now (length start.args.samples.now)
 
   -- those after it
   abbrev samples-demands : List Demand
-  samples-demands = findsNone 3 (unfit program) 0 384 ∷ findsNone 3 (voiceOutside voice) 384 128 ∷ []
+  samples-demands = finds_none 3 (unfit program) 0 384 ∷ finds_none 3 (voice_outside voice) 384 128 ∷ []
 
 -- lengths and use are right
 module _ (c : tie.After-enum-told) where
@@ -44,7 +44,7 @@ module _ (c : tie.After-enum-told) where
   here = c.before.before
 
   use-met : AllMet (uses here)
-  use-met = (met tt (uses here) (sym here.check-use.ensures ∙ ap verdictSaid c.enum_told.given.1)).0
+  use-met = (met tt (uses here) (sym here.check-use.ensures ∙ ap verdict_said c.enum_told.given.1)).0
 
   program-long : length (program here) ≡ 384
   program-long = eqb-true _ 384 use-met.0
@@ -71,10 +71,10 @@ module _ (c : tie.Else2) where
   abbrev first : tie.Else1
   first = c.before.before
 
-  voice-met : (i : ℕ) → 384 ≤ i → i < 384 + 128 → voiceOutside (voice (here (told first))) i ≡ false
+  voice-met : (i : ℕ) → 384 ≤ i → i < 384 + 128 → voice_outside (voice (here (told first))) i ≡ false
   voice-met =
       let v = voice (here (told first)) in
-      none_from (voiceOutside v) (unfitting (2 ^ 11) (2 ^ 4) v) 384 128 (length v) c.before.first-unfitting2.result (λ i h. voice-is v i)
+      none_from (voice_outside v) (unfitting (2 ^ 11) (2 ^ 4) v) 384 128 (length v) c.before.first-unfitting2.result (λ i h. voice-is v i)
       (voice-long (told first)) c.before.first-unfitting2.ensures c.if2.false
 
 check-use-requires : tie.Need-check-use-requires
@@ -84,11 +84,11 @@ enum-known-found : tie.Need-enum-known-found
 enum-known-found c = search rules
 
 returns : tie.Need-returns
-unfolding voiceJoinAnswer
+unfolding voice_join_answer
 returns c =
     let k = c.before.before.before in
     let found = c.before.found.given in
-    let e : provided (uses k) (accepted tt) ≡ refused found.0.0 found.0.1.0 = sym k.check-use.ensures ∙ ap verdictSaid found.1 in
+    let e : provided (uses k) (accepted tt) ≡ refused found.0.0 found.0.1.0 = sym k.check-use.ensures ∙ ap verdict_said found.1 in
     shows-refusal _ _ _ _ (extended (stops tt (uses k) found.0.0 found.0.1.0 e) (samples-demands k))
 
 enum_told : tie.Need-enum-told
@@ -101,7 +101,7 @@ cast-t14 : tie.Need-overflow-cast-t14
 cast-t14 c = search rules
 
 returns-2 : tie.Need-returns-2
-unfolding voiceJoinAnswer
+unfolding voice_join_answer
 returns-2 c =
     let f = c.before in
     let t = f.before in
@@ -121,7 +121,7 @@ add-t16 : tie.Need-overflow-add-t16
 add-t16 c = search rules
 
 returns-3 : tie.Need-returns-3
-unfolding voiceJoinAnswer
+unfolding voice_join_answer
 returns-3 c =
     let f = c.before in
     let o = f.before in
@@ -130,7 +130,7 @@ returns-3 c =
     shows-refusal _ _ _ _
     (further (uses (here t)) (use-met t)
     (later (program-met o)
-    (found_from (voiceOutside v) (unfitting (2 ^ 11) (2 ^ 4) v) 384 128 (length v) f.first-unfitting2.result (λ i h. voice-is v i) (voice-long t)
+    (found_from (voice_outside v) (unfitting (2 ^ 11) (2 ^ 4) v) 384 128 (length v) f.first-unfitting2.result (λ i h. voice-is v i) (voice-long t)
     f.first-unfitting2.ensures c.if2.true)))
 
 join-block-requires : tie.Need-join-block-requires
@@ -148,7 +148,7 @@ same_length : tie.Need-same-length
 same_length c = search rules
 
 returns-4 : tie.Need-returns-4
-unfolding voiceJoinAnswer
+unfolding voice_join_answer
 returns-4 c =
     let o = c.before.before.before in
     let t = told (first o) in

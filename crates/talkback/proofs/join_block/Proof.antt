@@ -11,8 +11,8 @@ use mir.Facts.{to_z-of_z}
 use Rattle.bits.proofs.Filling.{over, over-all, length_over}
 use Rattle.subframe.specs.Signed.{code_of}
 use Rattle.subframe.proofs.SignedLaws.{code-narrows}
-use Rattle.talkback.specs.Talkback.{withVoice}
-use Rattle.talkback.specs.Inner.{threeSet}
+use Rattle.talkback.specs.Talkback.{with_voice}
+use Rattle.talkback.specs.Inner.{three_set}
 use Rattle.talkback.proofs.Blocks.{length-with}
 use Rattle.talkback.proofs.Joining.{three-next}
 use Rattle.talkback.proofs.Pairs.{code-32-lt}
@@ -20,7 +20,7 @@ use Rattle.talkback.proofs.join_block.Statement.{statement}
 use Rattle.talkback.proofs.join_block.Tie as tie
 
 abbrev invariant-loop : tie.invariant-loop
-invariant-loop program voice samples₀ k₀ samples k = (k ≤ 64) × (samples ≡ over (6 * k) (withVoice program voice) samples₀)
+invariant-loop program voice samples₀ k₀ samples k = (k ≤ 64) × (samples ≡ over (6 * k) (with_voice program voice) samples₀)
 
 abbrev decreases-loop : tie.decreases-loop
 decreases-loop program voice samples₀ k₀ samples k = 64 - k
@@ -38,13 +38,13 @@ module _ (c : tie.At-loop invariant-loop decreases-loop) where
   abbrev k : ℕ
   k = c.loop.k
 
-  full : length (withVoice program voice) ≡ 384
+  full : length (with_voice program voice) ≡ 384
   full = length-with program voice
 
   long : length c.loop.samples ≡ 384
   long =
       ap length c.loop.invariant.1
-      ∙ length_over (6 * k) (withVoice program voice) old (omega (arith, full)) (omega (arith, c.before.requires.4)) ∙ c.before.requires.4
+      ∙ length_over (6 * k) (with_voice program voice) old (omega (arith, full)) (omega (arith, c.before.requires.4)) ∙ c.before.requires.4
 
 -- the voice samples that were read, side by side
 module _ (c : tie.After-pair invariant-loop decreases-loop) where
@@ -122,7 +122,7 @@ loop-again c =
     let nb : x / 2 ^ 32 % 2 ^ 12 ≡ code_of 12 (b made) =
     ap (λ (n : ℕ). n % 2 ^ 12) (above made) ∙ code-narrows 12 32 (omega arith) (b made) (p.before.pre.1 (2 * k p + 1) (omega arith)) in (
       omega arith,
-      three.join-three.ensures ∙ ap (threeSet (program p) (x % 2 ^ 32) (x / 2 ^ 32) (6 * k p)) p.loop.inv.1
+      three.join-three.ensures ∙ ap (three_set (program p) (x % 2 ^ 32) (x / 2 ^ 32) (6 * k p)) p.loop.inv.1
           ∙ three-next (program p) (voice p) (old p) p.before.pre.4 (k p) (x % 2 ^ 32) (x / 2 ^ 32) (omega arith) na nb,
     )
 
@@ -133,7 +133,7 @@ returns : tie.Need-returns invariant-loop decreases-loop
 returns c =
     let p = c.before in
     p.loop.invariant.1
-    ∙ over-all (6 * k p) (withVoice (program p) (voice p)) (old p) (omega (arith, full p)) (omega (arith, p.before.requires.4))
+    ∙ over-all (6 * k p) (with_voice (program p) (voice p)) (old p) (omega (arith, full p)) (omega (arith, p.before.requires.4))
 
 pub join-block-spec : {M : Type 1} → statement M
 join-block-spec =

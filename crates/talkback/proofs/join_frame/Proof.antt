@@ -9,8 +9,8 @@ use lib.ListN.{get_or, set}
 use mir.Syntax.{w32}
 use mir.Facts.{to_z-of_z}
 use Rattle.subframe.specs.Signed.{code_of, signed_of}
-use Rattle.talkback.specs.Talkback.{main, sampleWith}
-use Rattle.talkback.specs.Inner.{frameSet}
+use Rattle.talkback.specs.Talkback.{main, sample_with}
+use Rattle.talkback.specs.Inner.{frame_set}
 use Rattle.talkback.proofs.Pairs.{added-lt, added-32}
 use Rattle.talkback.proofs.join_frame.Statement.{statement}
 use Rattle.talkback.proofs.join_frame.Tie as tie
@@ -53,10 +53,10 @@ module _ (c : tie.After-pair) where
   above : sum / 2 ^ 32 ≡ code_of 32 second + b
   above = omega (arith, sum_is, first-lt)
 
-  made-first : signed_of 32 (sum % 2 ^ 32) ≡ sampleWith (main first) a
+  made-first : signed_of 32 (sum % 2 ^ 32) ≡ sample_with (main first) a
   made-first = let f = start.pre.0 start.args.i (omega arith) in ap (signed_of 32) below ∙ added-32 first f.0 f.1 a start.pre.3
 
-  made-second : signed_of 32 (sum / 2 ^ 32) ≡ sampleWith (main second) b
+  made-second : signed_of 32 (sum / 2 ^ 32) ≡ sample_with (main second) b
   made-second = let f = start.pre.0 (start.args.i + 1) start.pre.5 in ap (signed_of 32) above ∙ added-32 second f.0 f.1 b start.pre.4
 
 mul-a : tie.Need-overflow-mul-a
@@ -105,7 +105,7 @@ same_length : tie.Need-same-length
 same_length c = search rules
 
 returns : tie.Need-returns
-unfolding frameSet
+unfolding frame_set
 returns c =
     let p = c.before.before in
     let s = (start p).args in

@@ -5,7 +5,7 @@ use lib.IntN.{ℤ}
 use Prim.Native.Nat.{ℕ, ◌+◌, ◌*◌, ◌/◌, ◌%◌, ◌^◌}
 use native.Mathlib.Omega.{arith}
 use borrow.Author.Rules.{rules}
-use Rattle.talkback.specs.Inner.{frameSet, threeSet}
+use Rattle.talkback.specs.Inner.{frame_set, three_set}
 use Rattle.talkback.proofs.join_three.Statement.{statement}
 use Rattle.talkback.proofs.join_three.Tie as tie
 
@@ -14,10 +14,10 @@ halves : (x r : ℕ) → r ≡ x % 2 ^ 4 + x / 2 ^ 32 % 2 ^ 4 * 2 ^ 32 → (r % 
 halves x r e = (omega arith, omega arith)
 
 frame_is : (program samples : List ℤ) (i x r a b : ℕ) → r ≡ x % 2 ^ 4 + x / 2 ^ 32 % 2 ^ 4 * 2 ^ 32 → x % 2 ^ 4 ≡ a → x / 2 ^ 32 % 2 ^ 4 ≡ b
-    → frameSet program (r % 2 ^ 32) (r / 2 ^ 32) i samples ≡ frameSet program a b i samples
+    → frame_set program (r % 2 ^ 32) (r / 2 ^ 32) i samples ≡ frame_set program a b i samples
 frame_is program samples i x r a b e ea eb =
     let h = halves x r e in
-    ap₂ (λ (m n : ℕ). frameSet program m n i samples) (h.0 ∙ ea) (h.1 ∙ eb)
+    ap₂ (λ (m n : ℕ). frame_set program m n i samples) (h.0 ∙ ea) (h.1 ∙ eb)
 
 low-fours-requires : tie.Need-low-fours-requires
 low-fours-requires c κs = search rules
@@ -53,7 +53,7 @@ same_length : tie.Need-same-length
 same_length c = search rules
 
 returns : tie.Need-returns
-unfolding threeSet
+unfolding three_set
 returns c =
     let third = c.before in
     let low3 = third.before.before in
@@ -67,11 +67,11 @@ returns c =
     third.join-frame3.ensures
     ∙ frame_is p _ (s.i + 4) (v / 256) low3.low-fours3.result (v % 2 ^ 32 / 2 ^ 8 % 2 ^ 4) (v / 2 ^ 32 / 2 ^ 8 % 2 ^ 4)
     low3.low-fours3.ensures (omega arith) (omega arith)
-    ∙ ap (frameSet p (v % 2 ^ 32 / 2 ^ 8 % 2 ^ 4) (v / 2 ^ 32 / 2 ^ 8 % 2 ^ 4) (s.i + 4))
+    ∙ ap (frame_set p (v % 2 ^ 32 / 2 ^ 8 % 2 ^ 4) (v / 2 ^ 32 / 2 ^ 8 % 2 ^ 4) (s.i + 4))
     (second.join-frame2.ensures
     ∙ frame_is p _ (s.i + 2) (v / 16) low2.low-fours2.result (v % 2 ^ 32 / 2 ^ 4 % 2 ^ 4) (v / 2 ^ 32 / 2 ^ 4 % 2 ^ 4)
     low2.low-fours2.ensures (omega arith) (omega arith)
-    ∙ ap (frameSet p (v % 2 ^ 32 / 2 ^ 4 % 2 ^ 4) (v / 2 ^ 32 / 2 ^ 4 % 2 ^ 4) (s.i + 2))
+    ∙ ap (frame_set p (v % 2 ^ 32 / 2 ^ 4 % 2 ^ 4) (v / 2 ^ 32 / 2 ^ 4 % 2 ^ 4) (s.i + 2))
     (first.join-frame.ensures
     ∙ frame_is p _ s.i v low1.low-fours.result (v % 2 ^ 32 % 2 ^ 4) (v / 2 ^ 32 % 2 ^ 4) low1.low-fours.ensures (omega arith) (omega arith)))
 

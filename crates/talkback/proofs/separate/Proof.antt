@@ -9,12 +9,12 @@ use borrow.Author.Tests.{eqb-true}
 use lib.IntN.{ℤ}
 use lib.ListN.{length}
 use Rattle.answer.specs.Answer.{Answer.accepted, Answer.refused, verdict, after}
-use Rattle.answer.specs.Demand.{Demand, Demand.findsNone, provided, AllMet, Stops, ◌&◌}
-use Rattle.answer.specs.Said.{verdictSaid}
+use Rattle.answer.specs.Demand.{Demand, Demand.finds_none, provided, AllMet, Stops, ◌&◌}
+use Rattle.answer.specs.Said.{verdict_said}
 use Rattle.answer.proofs.Chains.{met, stops, stopped, passing, extended, found_here, none_here, further, all_of}
 use Rattle.answer.proofs.Residues.{whole}
 use Rattle.block.specs.Check.{outside}
-use Rattle.talkback.specs.Talkback.{program_of, voiceOf, useDemands, separateDemands, separateAnswer}
+use Rattle.talkback.specs.Talkback.{program_of, voice_of, use_demands, separate_demands, separate_answer}
 use Rattle.talkback.specs.Inner.{unfitting}
 use Rattle.talkback.proofs.Blocks.{length-program, length-voice}
 use Rattle.talkback.proofs.Demands.{outside-is, fit-samples}
@@ -24,22 +24,22 @@ use Rattle.talkback.proofs.separate.Tie as tie
 -- ---- what is said, and what both buffers hold
 
 module _ (samples : List ℤ) (side : List ℕ) (program voice : List ℤ) where
-  refuses : {number place : ℕ} → Stops (separateDemands samples side (length program) (length voice)) number place
-      → (refused number place ≡ verdict (separateAnswer samples side (length program) (length voice)))
-      × ((program ≡ after program_of (separateAnswer samples side (length program) (length voice)) program)
-      × (voice ≡ after voiceOf (separateAnswer samples side (length program) (length voice)) voice))
-  unfolding separateAnswer
+  refuses : {number place : ℕ} → Stops (separate_demands samples side (length program) (length voice)) number place
+      → (refused number place ≡ verdict (separate_answer samples side (length program) (length voice)))
+      × ((program ≡ after program_of (separate_answer samples side (length program) (length voice)) program)
+      × (voice ≡ after voice_of (separate_answer samples side (length program) (length voice)) voice))
+  unfolding separate_answer
   refuses s = rw (stopped (accepted samples) s) (refl, (refl, refl))
 
-  fills : {p v : List ℤ} → AllMet (separateDemands samples side (length program) (length voice)) → length program ≡ 384 → length voice ≡ 128
-      → p ≡ program_of samples → v ≡ voiceOf samples
-      → (accepted tt ≡ verdict (separateAnswer samples side (length program) (length voice)))
-      × ((p ≡ after program_of (separateAnswer samples side (length program) (length voice)) program)
-      × (v ≡ after voiceOf (separateAnswer samples side (length program) (length voice)) voice))
-  unfolding separateAnswer
+  fills : {p v : List ℤ} → AllMet (separate_demands samples side (length program) (length voice)) → length program ≡ 384 → length voice ≡ 128
+      → p ≡ program_of samples → v ≡ voice_of samples
+      → (accepted tt ≡ verdict (separate_answer samples side (length program) (length voice)))
+      × ((p ≡ after program_of (separate_answer samples side (length program) (length voice)) program)
+      × (v ≡ after voice_of (separate_answer samples side (length program) (length voice)) voice))
+  unfolding separate_answer
   fills m np nv ep ev =
-      rw (passing (accepted samples) (separateDemands samples side (length program) (length voice)) m)
-      (refl, (ep ∙ sym (whole program_of samples program (length-program samples ∙ sym np)), ev ∙ sym (whole voiceOf samples voice (length-voice samples ∙ sym nv))))
+      rw (passing (accepted samples) (separate_demands samples side (length program) (length voice)) m)
+      (refl, (ep ∙ sym (whole program_of samples program (length-program samples ∙ sym np)), ev ∙ sym (whole voice_of samples voice (length-voice samples ∙ sym nv))))
 
 module _ (c : tie.After-check-use) where
   abbrev start : tie.Start
@@ -49,7 +49,7 @@ module _ (c : tie.After-check-use) where
   samples = start.args.samples.now
 
   abbrev uses : List Demand
-  uses = useDemands (length start.args.program.now) (length start.args.voice.now) start.args.side.now (length samples)
+  uses = use_demands (length start.args.program.now) (length start.args.voice.now) start.args.side.now (length samples)
 
 -- lengths and use are right
 module _ (c : tie.After-enum-told) where
@@ -57,7 +57,7 @@ module _ (c : tie.After-enum-told) where
   here = c.before.before
 
   use-met : AllMet (uses here)
-  use-met = (met tt (uses here) (sym here.check-use.ensures ∙ ap verdictSaid c.enum_told.given.1)).0
+  use-met = (met tt (uses here) (sym here.check-use.ensures ∙ ap verdict_said c.enum_told.given.1)).0
 
   program-long : length (start here).args.program.now ≡ 384
   program-long = eqb-true _ 384 use-met.0
@@ -89,9 +89,9 @@ returns : tie.Need-returns
 returns c =
     let k = c.before.before.before in
     let found = c.before.found.given in
-    let e : provided (uses k) (accepted tt) ≡ refused found.0.0 found.0.1.0 = sym k.check-use.ensures ∙ ap verdictSaid found.1 in
+    let e : provided (uses k) (accepted tt) ≡ refused found.0.0 found.0.1.0 = sym k.check-use.ensures ∙ ap verdict_said found.1 in
     refuses (samples k) (start k).args.side.now (start k).args.program.now (start k).args.voice.now
-    (extended (stops tt (uses k) found.0.0 found.0.1.0 e) (findsNone 3 (outside (samples k)) 0 384 ∷ []))
+    (extended (stops tt (uses k) found.0.0 found.0.1.0 e) (finds_none 3 (outside (samples k)) 0 384 ∷ []))
 
 enum_told : tie.Need-enum-told
 enum_told c = search rules
@@ -138,7 +138,7 @@ returns-3 c =
     let t = told o in
     let k = here t in
     fills (samples k) (start k).args.side.now (start k).args.program.now (start k).args.voice.now
-    (all_of (uses k) (findsNone 3 (outside (samples k)) 0 384 ∷ []) (use-met t) (samples-met o & tt)) (program-long t) (voice-long t) done.separate-program.ensures
+    (all_of (uses k) (finds_none 3 (outside (samples k)) 0 384 ∷ []) (use-met t) (samples-met o & tt)) (program-long t) (voice-long t) done.separate-program.ensures
     c.before.separate-voice.ensures
 
 pub separate-spec : {M : Type 1} → statement M

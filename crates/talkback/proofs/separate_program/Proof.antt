@@ -12,7 +12,7 @@ use mir.Val.{to_z, of_z}
 use mir.Facts.{to_z-of_z}
 use Rattle.bits.proofs.Filling.{over, over-next, over-all, length_over}
 use Rattle.talkback.specs.Talkback.{program_of}
-use Rattle.talkback.proofs.Blocks.{length-program, getD-program}
+use Rattle.talkback.proofs.Blocks.{length-program, get_or-program}
 use Rattle.talkback.proofs.separate_program.Statement.{statement}
 use Rattle.talkback.proofs.separate_program.Tie as tie
 
@@ -74,7 +74,7 @@ loop-again c =
     let p = c.before.before.before in
     let e = to_z-of_z {w = w32} (sfits_of c.cleared.type-inv) ∙ rw (held c.before) at c.cleared.ensures in (
       omega arith,
-      ap₂ (λ (l : List ℤ) (y : ℤ). set l (i p) y) p.loop.invariant.1 (e ∙ sym (getD-program (samples p) (i p) (omega arith)))
+      ap₂ (λ (l : List ℤ) (y : ℤ). set l (i p) y) p.loop.invariant.1 (e ∙ sym (get_or-program (samples p) (i p) (omega arith)))
           ∙ over-next (i p) (program_of (samples p)) (old p) (pos 0) (omega (arith, full p)) (omega (arith, p.before.requires.2)),
     )
 

@@ -10,13 +10,13 @@ use lib.ListN.{length, set, get_or}
 use mir.Syntax.{w32}
 use mir.Facts.{to_z-of_z}
 use Rattle.bits.proofs.Filling.{over, over-next, over-all, length_over}
-use Rattle.talkback.specs.Talkback.{voiceOf}
-use Rattle.talkback.proofs.Blocks.{length-voice, getD-voice, from-subframe}
+use Rattle.talkback.specs.Talkback.{voice_of}
+use Rattle.talkback.proofs.Blocks.{length-voice, get_or-voice, from-subframe}
 use Rattle.talkback.proofs.separate_voice.Statement.{statement}
 use Rattle.talkback.proofs.separate_voice.Tie as tie
 
 abbrev invariant-loop : tie.invariant-loop
-invariant-loop samples voice₀ k₀ voice k = (k ≤ 128) × (voice ≡ over k (voiceOf samples) voice₀)
+invariant-loop samples voice₀ k₀ voice k = (k ≤ 128) × (voice ≡ over k (voice_of samples) voice₀)
 
 abbrev decreases-loop : tie.decreases-loop
 decreases-loop samples voice₀ k₀ voice k = 128 - k
@@ -31,12 +31,12 @@ module _ (c : tie.At-loop invariant-loop decreases-loop) where
   abbrev k : ℕ
   k = c.loop.k
 
-  full : length (voiceOf samples) ≡ 128
+  full : length (voice_of samples) ≡ 128
   full = length-voice samples
 
   long : length c.loop.voice ≡ 128
   long =
-      ap length c.loop.invariant.1 ∙ length_over k (voiceOf samples) old (omega (arith, full)) (omega (arith, c.before.requires.2))
+      ap length c.loop.invariant.1 ∙ length_over k (voice_of samples) old (omega (arith, full)) (omega (arith, c.before.requires.2))
       ∙ c.before.requires.2
 
 loop-holds : tie.Need-loop-init invariant-loop decreases-loop
@@ -68,8 +68,8 @@ loop-again c =
     let p = c.before.before in
     let e = to_z-of_z {w = w32} (sfits_of c.voice-at.type-inv) ∙ c.voice-at.ensures ∙ from-subframe (samples p) (k p) in (
       omega arith,
-      ap₂ (λ (l : List ℤ) (y : ℤ). set l (k p) y) p.loop.invariant.1 (e ∙ sym (getD-voice (samples p) (k p) (omega arith)))
-          ∙ over-next (k p) (voiceOf (samples p)) (old p) (pos 0) (omega (arith, full p)) (omega (arith, p.before.requires.2)),
+      ap₂ (λ (l : List ℤ) (y : ℤ). set l (k p) y) p.loop.invariant.1 (e ∙ sym (get_or-voice (samples p) (k p) (omega arith)))
+          ∙ over-next (k p) (voice_of (samples p)) (old p) (pos 0) (omega (arith, full p)) (omega (arith, p.before.requires.2)),
     )
 
 same_length : tie.Need-same-length invariant-loop decreases-loop
@@ -78,7 +78,7 @@ same_length c = omega (arith, long c.before, c.before.before.requires.2)
 returns : tie.Need-returns invariant-loop decreases-loop
 returns c =
     let p = c.before in
-    p.loop.invariant.1 ∙ over-all (k p) (voiceOf (samples p)) (old p) (omega (arith, full p)) (omega (arith, p.before.requires.2))
+    p.loop.invariant.1 ∙ over-all (k p) (voice_of (samples p)) (old p) (omega (arith, full p)) (omega (arith, p.before.requires.2))
 
 pub separate-voice-spec : {M : Type 1} → statement M
 separate-voice-spec =

@@ -8,7 +8,7 @@ use Rattle.answer.specs.Answer.{Answer.accepted}
 use Rattle.answer.specs.Demand.{◌&◌}
 use Rattle.answer.specs.Demand.Stops.{later}
 use Rattle.answer.proofs.Chains.{stopped, passing}
-use Rattle.block.specs.Check.{consumer, wrong, unmarked, statusDemands, statusChecked}
+use Rattle.block.specs.Check.{consumer, wrong, unmarked, status_demands, status_checked}
 use Rattle.block.proofs.CheckLaws.{at-A, at-B, neither}
 use Rattle.block.proofs.by_status.check_status.Statement.{statement}
 use Rattle.block.proofs.by_status.check_status.Tie as tie
@@ -45,21 +45,21 @@ is-consumer-requires : tie.Need-is-consumer-requires
 is-consumer-requires c κs = search rules
 
 returns : tie.Need-returns
-unfolding statusChecked
+unfolding status_checked
 returns c = sym (stopped (accepted tt) (at-A _ (sym c.before.is-consumer.ensures ∙ c.if1.true)))
 
 is-consumer-requires-2 : tie.Need-is-consumer-requires-2
 is-consumer-requires-2 c κs = search rules
 
 returns-2 : tie.Need-returns-2
-unfolding statusChecked
+unfolding status_checked
 returns-2 c = sym (stopped (accepted tt) (at-B _ (no1 c.before.before) (sym c.before.is-consumer2.ensures ∙ c.if2.true)))
 
 is-wrong-requires : tie.Need-is-wrong-requires
 is-wrong-requires c κs = search rules
 
 returns-3 : tie.Need-returns-3
-unfolding statusChecked
+unfolding status_checked
 returns-3 c =
     let p = c.before.before in
     sym (stopped (accepted tt) (later (past4 p) (at-A _ (sym c.before.is-wrong.ensures ∙ c.if3.true))))
@@ -68,7 +68,7 @@ is-wrong-requires-2 : tie.Need-is-wrong-requires-2
 is-wrong-requires-2 c κs = search rules
 
 returns-4 : tie.Need-returns-4
-unfolding statusChecked
+unfolding status_checked
 returns-4 c =
     let p = c.before.before in
     sym (stopped (accepted tt) (later (past4 p.before.before) (at-B _ (no3 p) (sym c.before.is-wrong2.ensures ∙ c.if4.true))))
@@ -77,7 +77,7 @@ is-unmarked-requires : tie.Need-is-unmarked-requires
 is-unmarked-requires c κs = search rules
 
 returns-5 : tie.Need-returns-5
-unfolding statusChecked
+unfolding status_checked
 returns-5 c =
     let p = c.before.before in
     sym (stopped (accepted tt)
@@ -87,7 +87,7 @@ is-unmarked-requires-2 : tie.Need-is-unmarked-requires-2
 is-unmarked-requires-2 c κs = search rules
 
 returns-6 : tie.Need-returns-6
-unfolding statusChecked
+unfolding status_checked
 returns-6 c =
     let p = c.before.before in
     let q = p.before.before in
@@ -95,11 +95,11 @@ returns-6 c =
     (later (past4 q.before.before.before.before) (later (past5 q) (at-B _ (no5 p) (sym c.before.is-unmarked2.ensures ∙ c.if6.true)))))
 
 returns-7 : tie.Need-returns-7
-unfolding statusChecked
+unfolding status_checked
 returns-7 c =
     let p = c.before.before in
     let q = p.before.before in
-    sym (passing (accepted tt) (statusDemands (side4 q))
+    sym (passing (accepted tt) (status_demands (side4 q))
     (past4 q.before.before.before.before & past5 q & neither (unmarked (side4 q)) (no5 p) (sym c.before.is-unmarked2.ensures ∙ c.if6.false) & tt))
 
 pub check-status-spec : {M : Type 1} → statement M

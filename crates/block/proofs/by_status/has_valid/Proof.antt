@@ -5,17 +5,17 @@ use mathlib.Core.List.{List}
 use Prim.Native.Nat.{ℕ, ◌+◌, ◌-◌, ◌*◌, ◌≤◌, ◌<◌}
 use native.Mathlib.Omega.{arith}
 use Rattle.bits.proofs.Places.{some}
-use Rattle.block.specs.Side.{validity, columns, columnLength}
-use Rattle.block.specs.Check.{someValid}
-use Rattle.block.proofs.Octets.{noV, octet-one, octet-none, none_left}
+use Rattle.block.specs.Side.{validity, columns, column_length}
+use Rattle.block.specs.Check.{some_valid}
+use Rattle.block.proofs.Octets.{no_v, octet-one, octet-none, none_left}
 use Rattle.block.proofs.by_status.has_valid.Statement.{statement}
 use Rattle.block.proofs.by_status.has_valid.Tie as tie
 
 abbrev invariant-loop : tie.invariant-loop
-invariant-loop side channel at j₀ j = (j ≤ columnLength) × (some (noV side (columns * channel + validity)) (j * 8) (192 - j * 8) ≡ someValid side channel)
+invariant-loop side channel at j₀ j = (j ≤ column_length) × (some (no_v side (columns * channel + validity)) (j * 8) (192 - j * 8) ≡ some_valid side channel)
 
 abbrev decreases-loop : tie.decreases-loop
-decreases-loop side channel at j₀ j = columnLength - j
+decreases-loop side channel at j₀ j = column_length - j
 
 module _ (c : tie.At-loop invariant-loop decreases-loop) where
   abbrev side : List ℕ
@@ -40,7 +40,7 @@ mul-at-2 : tie.Need-overflow-mul-at-2 invariant-loop decreases-loop
 mul-at-2 c = omega arith
 
 loop-holds : tie.Need-loop-init invariant-loop decreases-loop
-unfolding someValid
+unfolding some_valid
 loop-holds c = (omega arith, refl)
 
 add-if1 : tie.Need-overflow-add-if1 invariant-loop decreases-loop
@@ -52,7 +52,7 @@ shared-slice-read-if1 c = omega arith
 returns : tie.Need-returns invariant-loop decreases-loop
 returns c =
     let p = c.before.before.before in
-    sym (octet-one (side p) (k p) (j p) (small p) c.before.before.loop-test.true (omega (arith, c.before.shared-slice-known.given (columnLength * k p + j p))) c.if1.true) ∙ p.loop.invariant.1
+    sym (octet-one (side p) (k p) (j p) (small p) c.before.before.loop-test.true (omega (arith, c.before.shared-slice-known.given (column_length * k p + j p))) c.if1.true) ∙ p.loop.invariant.1
 
 add-j : tie.Need-overflow-add-j invariant-loop decreases-loop
 add-j c = omega arith

@@ -6,14 +6,14 @@ use Prim.Native.Nat.{ℕ, ◌<◌}
 use borrow.Author.Rules.{rules}
 use borrow.Author.Tests.{eq-eqb, lt-ltb}
 use lib.ListN.{length}
-use Rattle.block.specs.Side.{sideLength}
-use Rattle.block.specs.Check.{statusRight, wrong}
+use Rattle.block.specs.Side.{side_length}
+use Rattle.block.specs.Check.{status_right, wrong}
 use Rattle.block.proofs.by_status.is_wrong.Statement.{statement}
 use Rattle.block.proofs.by_status.is_wrong.Tie as tie
 
-tells : (t : List ℕ) (channel : ℕ) → length t ≡ sideLength → channel < 2 → not (statusRight t channel) ≡ wrong t channel
-unfolding statusRight wrong
-tells t channel n h = rw (eq-eqb (length t) sideLength n, lt-ltb channel 2 h)
+tells : (t : List ℕ) (channel : ℕ) → length t ≡ side_length → channel < 2 → not (status_right t channel) ≡ wrong t channel
+unfolding status_right wrong
+tells t channel n h = rw (eq-eqb (length t) side_length n, lt-ltb channel 2 h)
 
 status-right-requires : tie.Need-status-right-requires
 status-right-requires c κs = search rules

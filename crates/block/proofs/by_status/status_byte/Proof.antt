@@ -4,8 +4,8 @@ use Prim.Native.Nat.{◌+◌, ◌*◌}
 use native.Mathlib.Omega.{arith}
 use borrow.Author.Rules.{rules}
 use Rattle.block.specs.Side.{status, columns}
-use Rattle.block.proofs.SideLaws.{getD-columnIn}
-use Rattle.block.specs.Check.{statusOf}
+use Rattle.block.proofs.SideLaws.{get_or-column_in}
+use Rattle.block.specs.Check.{status_of}
 use Rattle.block.proofs.by_status.status_byte.Statement.{statement}
 use Rattle.block.proofs.by_status.status_byte.Tie as tie
 
@@ -25,10 +25,10 @@ shared-slice-read-result : tie.Need-shared-slice-read-result
 shared-slice-read-result c = search rules
 
 returns : tie.Need-returns
-unfolding statusOf
+unfolding status_of
 returns c =
     let a = c.before.args in
-    sym (getD-columnIn a.side.now (columns * a.channel + status) a.byte (omega arith))
+    sym (get_or-column_in a.side.now (columns * a.channel + status) a.byte (omega arith))
 
 pub status-byte-spec : {M : Type 1} → statement M
 status-byte-spec =

@@ -1,7 +1,7 @@
 -- `block::fault_map::sixteen_faults` meets its contract. Assumes nothing.
 use Prim.Native.Nat.{◌+◌}
 use native.Mathlib.Omega.{arith}
-use Rattle.block.specs.Inner.{faultsOf}
+use Rattle.block.specs.Inner.{faults_of}
 use borrow.Author.Rules.{rules}
 use Rattle.block.proofs.fault_map.sixteen_faults.Statement.{statement}
 use Rattle.block.proofs.fault_map.sixteen_faults.Tie as tie
@@ -39,7 +39,7 @@ add-result-4 c =
     omega (arith, c.before.shared-slice-known.given (72 + j), c.shared-slice-known2.given (168 + j))
 
 returns : tie.Need-returns
-unfolding faultsOf
+unfolding faults_of
 returns c = search rules
 
 pub sixteen-faults-spec : {M : Type 1} → statement M

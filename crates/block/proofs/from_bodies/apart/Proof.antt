@@ -5,7 +5,7 @@ use Prim.Native.Nat.{ℕ}
 use native.Mathlib.Omega.{arith}
 use borrow.Author.Rules.{rules}
 use lib.ListN.{length, get_or}
-use Rattle.subframe.specs.Body.{parityOf}
+use Rattle.subframe.specs.Body.{parity_of}
 use Rattle.block.proofs.Gathering.{length-apart, entry}
 use Rattle.block.proofs.from_bodies.apart.Statement.{statement}
 use Rattle.block.proofs.from_bodies.apart.Tie as tie
@@ -30,7 +30,7 @@ returns c =
     let start = c.before.before.before in
     let a = start.args in
     ap (λ (i : ℕ). get_or a.table.now i 0) c.before.slots-and-parity.ensures.0
-    ∙ entry a.table.now a.body (parityOf a.body) start.requires (omega arith) refl
+    ∙ entry a.table.now a.body (parity_of a.body) start.requires (omega arith) refl
 
 pub apart-spec : {M : Type 1} → statement M
 apart-spec =

@@ -4,14 +4,14 @@ use mathlib.Core.List.{List}
 use Prim.Native.Nat.{ℕ, ◌+◌, ◌-◌, ◌*◌, ◌/◌, ◌^◌, ◌≤◌, ◌<◌}
 use native.Mathlib.Omega.{arith}
 use lib.ListN.{get_or}
-use Rattle.block.specs.Side.{columnBits, columnLength}
-use Rattle.block.specs.Inner.{digitsOf, gathered}
+use Rattle.block.specs.Side.{column_bits, column_length}
+use Rattle.block.specs.Inner.{digits_of, gathered}
 use Rattle.block.proofs.Gathering.{more, gathered-lt, none}
 use Rattle.block.proofs.from_bodies.channel_octets.Statement.{statement}
 use Rattle.block.proofs.from_bodies.channel_octets.Tie as tie
 
 abbrev invariant-loop : tie.invariant-loop
-invariant-loop table bodies channel j n₀ m₀ n m = (m ≤ 8) × (n ≡ gathered columnBits bodies channel (j * 8 + 8 - m) m)
+invariant-loop table bodies channel j n₀ m₀ n m = (m ≤ 8) × (n ≡ gathered column_bits bodies channel (j * 8 + 8 - m) m)
 
 abbrev decreases-loop : tie.decreases-loop
 decreases-loop table bodies channel j n₀ m₀ n m = 8 - m
@@ -30,20 +30,20 @@ module _ (c : tie.At-loop invariant-loop decreases-loop) where
   body = get_or bodies (2 * (j * 8 + 7 - m) + c.before.before.before.args.channel) 0
 
   -- there is room for one frame more
-  room : m < 8 → j < columnLength → c.loop.n * 2 + digitsOf columnBits body < 2 ^ 32
+  room : m < 8 → j < column_length → c.loop.n * 2 + digits_of column_bits body < 2 ^ 32
   room h hj =
       let ch = c.before.before.before.args.channel in
       omega (
         arith,
         c.loop.invariant.1,
-        more bodies ch (j * 8) m columnBits (omega arith) h,
-        gathered-lt bodies ch (j * 8 + 8 - (m + 1)) (m + 1) columnBits (omega arith),
+        more bodies ch (j * 8) m column_bits (omega arith) h,
+        gathered-lt bodies ch (j * 8 + 8 - (m + 1)) (m + 1) column_bits (omega arith),
       )
 
 loop-holds : tie.Need-loop-init invariant-loop decreases-loop
 loop-holds c =
     let a = c.before.before.args in
-    (omega arith, sym (none columnBits a.bodies.now a.channel (a.j * 8 + 8 - 0)))
+    (omega arith, sym (none column_bits a.bodies.now a.channel (a.j * 8 + 8 - 0)))
 
 body-at-requires : tie.Need-body-at-requires invariant-loop decreases-loop
 body-at-requires c κs =
@@ -57,8 +57,8 @@ apart-requires : tie.Need-apart-requires invariant-loop decreases-loop
 apart-requires c κs = c.before.before.before.before.before.requires.0
 
 -- what the turn adds
-added : (c : tie.After-apart invariant-loop decreases-loop) → c.apart.result ≡ digitsOf columnBits (body c.before.before.before)
-added c = c.apart.ensures ∙ ap (digitsOf columnBits) c.before.body_at.ensures
+added : (c : tie.After-apart invariant-loop decreases-loop) → c.apart.result ≡ digits_of column_bits (body c.before.before.before)
+added c = c.apart.ensures ∙ ap (digits_of column_bits) c.before.body_at.ensures
 
 add-n : tie.Need-overflow-add-n invariant-loop decreases-loop
 add-n c = omega (arith, added c, room c.before.before.before (omega arith) (omega arith))
@@ -74,7 +74,7 @@ loop-again c =
     let p = c.before.before.before in (
       omega arith,
       ap₂ (λ (x y : ℕ). x * 2 + y) p.loop.invariant.1 (added c)
-          ∙ sym (more (bodies p) p.before.before.before.args.channel (j p * 8) (m p) columnBits (omega arith) c.before.before.loop-test.true),
+          ∙ sym (more (bodies p) p.before.before.before.args.channel (j p * 8) (m p) column_bits (omega arith) c.before.before.loop-test.true),
     )
 
 returns : tie.Need-returns invariant-loop decreases-loop

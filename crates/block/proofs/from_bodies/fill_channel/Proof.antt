@@ -5,16 +5,16 @@ use Prim.Native.Nat.{ℕ, ◌+◌, ◌-◌, ◌*◌, ◌≤◌, ◌<◌}
 use native.Mathlib.Omega.{arith}
 use borrow.Author.Rules.{rules}
 use lib.ListN.{length}
-use Rattle.block.specs.Side.{columns, columnLength}
+use Rattle.block.specs.Side.{columns, column_length}
 use Rattle.block.proofs.Columns.{Upto, length-laid, turn, whole}
 use Rattle.block.proofs.from_bodies.fill_channel.Statement.{statement}
 use Rattle.block.proofs.from_bodies.fill_channel.Tie as tie
 
 abbrev invariant-loop : tie.invariant-loop
-invariant-loop table bodies channel part₀ j₀ part j = (j ≤ columnLength) × (length part ≡ columnLength * columns) × Upto bodies channel j part
+invariant-loop table bodies channel part₀ j₀ part j = (j ≤ column_length) × (length part ≡ column_length * columns) × Upto bodies channel j part
 
 abbrev decreases-loop : tie.decreases-loop
-decreases-loop table bodies channel part₀ j₀ part j = columnLength - j
+decreases-loop table bodies channel part₀ j₀ part j = column_length - j
 
 loop-holds : tie.Need-loop-init invariant-loop decreases-loop
 loop-holds c = (omega arith, omega arith, λ k o hk ho. absurd (omega arith))
@@ -52,7 +52,7 @@ returns : tie.Need-returns invariant-loop decreases-loop
 returns c =
     let p = c.before in
     let a = p.before.before.before.before.args in
-    let e : p.loop.j ≡ columnLength = omega arith in
+    let e : p.loop.j ≡ column_length = omega arith in
     whole a.bodies.now a.channel p.loop.part p.loop.invariant.1 (λ k o hk ho. p.loop.invariant.2 k o hk (omega arith))
 
 pub fill-channel-spec : {M : Type 1} → statement M

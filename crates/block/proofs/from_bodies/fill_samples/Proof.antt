@@ -9,14 +9,14 @@ use lib.ListN.{length, set, get_or}
 use mir.Syntax.{w32}
 use mir.Facts.{to_z-of_z}
 use Rattle.bits.proofs.Filling.{over, over-next, over-all, length_over}
-use Rattle.subframe.specs.Body.{sampleOf}
-use Rattle.block.specs.Block.{samplesOf}
-use Rattle.block.proofs.BlockLaws.{length-samples, getD-samples}
+use Rattle.subframe.specs.Body.{sample_of}
+use Rattle.block.specs.Block.{samples_of}
+use Rattle.block.proofs.BlockLaws.{length-samples, get_or-samples}
 use Rattle.block.proofs.from_bodies.fill_samples.Statement.{statement}
 use Rattle.block.proofs.from_bodies.fill_samples.Tie as tie
 
 abbrev invariant-loop : tie.invariant-loop
-invariant-loop bodies samples₀ i₀ samples i = (i ≤ 384) × (samples ≡ over i (samplesOf bodies) samples₀)
+invariant-loop bodies samples₀ i₀ samples i = (i ≤ 384) × (samples ≡ over i (samples_of bodies) samples₀)
 
 abbrev decreases-loop : tie.decreases-loop
 decreases-loop bodies samples₀ i₀ samples i = 384 - i
@@ -34,17 +34,17 @@ module _ (c : tie.At-loop invariant-loop decreases-loop) where
   long : length c.loop.samples ≡ length old
   long =
       ap length c.loop.invariant.1
-      ∙ length_over i (samplesOf bodies) old (omega (arith, length-samples bodies)) (omega (arith, c.before.before.requires.1))
+      ∙ length_over i (samples_of bodies) old (omega (arith, length-samples bodies)) (omega (arith, c.before.before.requires.1))
 
-  next : (z : ℤ) → i < 384 → z ≡ sampleOf (get_or bodies i 0) → set c.loop.samples i z ≡ over (i + 1) (samplesOf bodies) old
+  next : (z : ℤ) → i < 384 → z ≡ sample_of (get_or bodies i 0) → set c.loop.samples i z ≡ over (i + 1) (samples_of bodies) old
   next z h e =
-      ap₂ (λ (l : List ℤ) (y : ℤ). set l i y) c.loop.invariant.1 (e ∙ sym (getD-samples bodies i h))
-      ∙ over-next i (samplesOf bodies) old (pos 0) (omega (arith, length-samples bodies)) (omega (arith, c.before.before.requires.1))
+      ap₂ (λ (l : List ℤ) (y : ℤ). set l i y) c.loop.invariant.1 (e ∙ sym (get_or-samples bodies i h))
+      ∙ over-next i (samples_of bodies) old (pos 0) (omega (arith, length-samples bodies)) (omega (arith, c.before.before.requires.1))
 
-  done : 384 ≤ i → c.loop.samples ≡ samplesOf bodies
+  done : 384 ≤ i → c.loop.samples ≡ samples_of bodies
   done h =
       c.loop.invariant.1
-      ∙ over-all i (samplesOf bodies) old (omega (arith, length-samples bodies)) (omega (arith, c.before.before.requires.1))
+      ∙ over-all i (samples_of bodies) old (omega (arith, length-samples bodies)) (omega (arith, c.before.before.requires.1))
 
 loop-holds : tie.Need-loop-init invariant-loop decreases-loop
 loop-holds c = (omega arith, refl)

@@ -10,38 +10,38 @@ use borrow.Rule.Slice.PartMut.{same_len_mid}
 use lib.ListN.{length, take}
 use Rattle.bits.specs.Listed.{joined}
 use Rattle.bits.proofs.Filling.{filled-part, filled-all}
-use Rattle.block.specs.Side.{columns, columnLength, sideLength}
+use Rattle.block.specs.Side.{columns, column_length, side_length}
 use Rattle.block.specs.Block.{side_of}
-use Rattle.block.specs.Inner.{channelSide}
+use Rattle.block.specs.Inner.{channel_side}
 use Rattle.block.proofs.Columns.{length-channel, side-halves}
 use Rattle.block.proofs.from_bodies.fill_side.Statement.{statement}
 use Rattle.block.proofs.from_bodies.fill_side.Tie as tie
 
 abbrev invariant-loop : tie.invariant-loop
 invariant-loop table bodies side₀ k₀ side k =
-    (k ≤ 2) × (length side ≡ sideLength) × (take (k * (columnLength * columns)) side ++ joined k (2 - k) (channelSide bodies) ≡ side_of bodies)
+    (k ≤ 2) × (length side ≡ side_length) × (take (k * (column_length * columns)) side ++ joined k (2 - k) (channel_side bodies) ≡ side_of bodies)
 
 abbrev decreases-loop : tie.decreases-loop
 decreases-loop table bodies side₀ k₀ side k = 2 - k
 
 module _ (side bodies : List ℕ) (k : ℕ) where
   abbrev f : ℕ → List ℕ
-  f = channelSide bodies
+  f = channel_side bodies
 
-  turn : (o post : List ℕ) → k < 2 → length side ≡ sideLength → o ≡ f k → take (k * (columnLength * columns)) side ++ joined k (2 - k) f ≡ side_of bodies
-      → take ((k + 1) * (columnLength * columns)) (take (k * (columnLength * columns)) side ++ (o ++ post)) ++ joined (k + 1) (2 - (k + 1)) f ≡ side_of bodies
+  turn : (o post : List ℕ) → k < 2 → length side ≡ side_length → o ≡ f k → take (k * (column_length * columns)) side ++ joined k (2 - k) f ≡ side_of bodies
+      → take ((k + 1) * (column_length * columns)) (take (k * (column_length * columns)) side ++ (o ++ post)) ++ joined (k + 1) (2 - (k + 1)) f ≡ side_of bodies
   unfolding joined
   turn o post h n e q =
       let m : 2 - k ≡ suc (2 - (k + 1)) = omega arith in
-      let p : (k + 1) * (columnLength * columns) ≡ k * (columnLength * columns) + columnLength * columns = omega arith in
-      rw p (filled-part side o post (joined (k + 1) (2 - (k + 1)) f) (side_of bodies) (k * (columnLength * columns)) (columnLength * columns) (omega arith)
+      let p : (k + 1) * (column_length * columns) ≡ k * (column_length * columns) + column_length * columns = omega arith in
+      rw p (filled-part side o post (joined (k + 1) (2 - (k + 1)) f) (side_of bodies) (k * (column_length * columns)) (column_length * columns) (omega arith)
       (ap length e ∙ length-channel bodies k) (rw (e, add-one k) (rw (m, add-one k) at q)))
 
-  done : 2 ≤ k → length side ≡ sideLength → take (k * (columnLength * columns)) side ++ joined k (2 - k) f ≡ side_of bodies → side ≡ side_of bodies
+  done : 2 ≤ k → length side ≡ side_length → take (k * (column_length * columns)) side ++ joined k (2 - k) f ≡ side_of bodies → side ≡ side_of bodies
   unfolding joined
   done h n q =
       let z : 2 - k ≡ 0 = omega arith in
-      filled-all side (side_of bodies) (k * (columnLength * columns)) (omega arith) (rw z at q)
+      filled-all side (side_of bodies) (k * (column_length * columns)) (omega arith) (rw z at q)
 
 loop-holds : tie.Need-loop-init invariant-loop decreases-loop
 loop-holds c = (omega arith, omega arith, side-halves c.before.before.before.args.bodies.now)
@@ -78,7 +78,7 @@ loop-again c =
     let o = f.new.1.1.1.0 in
     let h = c.before.before.before.before.loop-test.true in (
       omega arith,
-      same_len_mid {X = ℕ} (v.k * (columnLength * columns)) (v.k * (columnLength * columns) + columnLength * columns - v.k * (columnLength * columns)) v.side o f.auto.1.1.1.0 ∙ v.invariant.1,
+      same_len_mid {X = ℕ} (v.k * (column_length * columns)) (v.k * (column_length * columns) + column_length * columns - v.k * (column_length * columns)) v.side o f.auto.1.1.1.0 ∙ v.invariant.1,
       turn v.side p.before.before.before.before.args.bodies.now v.k o _ h v.invariant.1 f.ensures v.invariant.2,
     )
 

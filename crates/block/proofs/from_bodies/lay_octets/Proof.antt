@@ -6,21 +6,21 @@ use Prim.Native.Nat.{ℕ, suc, ◌+◌, ◌-◌, ◌*◌, ◌/◌, ◌%◌, ◌�
 use native.Mathlib.Numerals.{add-one}
 use native.Mathlib.Omega.{arith}
 use lib.ListN.{length, set, length-set}
-use Rattle.block.specs.Side.{columns, columnLength}
+use Rattle.block.specs.Side.{columns, column_length}
 use Rattle.block.specs.Inner.{laid}
 use Rattle.block.proofs.from_bodies.lay_octets.Statement.{statement}
 use Rattle.block.proofs.from_bodies.lay_octets.Tie as tie
 
 abbrev invariant-loop : tie.invariant-loop
 invariant-loop octets j part₀ left₀ k₀ part left k =
-    (k ≤ columns) × (length part ≡ columnLength * columns) × (laid k (columns - k) j left part ≡ laid 0 columns j octets part₀)
+    (k ≤ columns) × (length part ≡ column_length * columns) × (laid k (columns - k) j left part ≡ laid 0 columns j octets part₀)
 
 abbrev decreases-loop : tie.decreases-loop
 decreases-loop octets j part₀ left₀ k₀ part left k = columns - k
 
 -- one octet more
 next : (j k x : ℕ) (part : List ℕ) → k < columns
-    → laid k (columns - k) j x part ≡ laid (k + 1) (columns - (k + 1)) j (x / 256) (set part (columnLength * k + j) (x % 256))
+    → laid k (columns - k) j x part ≡ laid (k + 1) (columns - (k + 1)) j (x / 256) (set part (column_length * k + j) (x % 256))
 unfolding laid
 next j k x part h =
     let n : columns - k ≡ suc (columns - (k + 1)) = omega arith in
@@ -59,7 +59,7 @@ loop-again c =
     let loop = at.loop in
     let j = at.before.args.j in (
       omega arith,
-      length-set loop.part (columnLength * loop.k + j) (loop.left % 256) ∙ loop.invariant.1,
+      length-set loop.part (column_length * loop.k + j) (loop.left % 256) ∙ loop.invariant.1,
       sym (next j loop.k loop.left loop.part c.loop-test.true) ∙ loop.invariant.2,
     )
 

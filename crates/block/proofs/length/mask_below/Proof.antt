@@ -4,7 +4,7 @@ use Prim.Native.Nat.{ℕ, ◌+◌, ◌-◌, ◌*◌, ◌%◌, ◌^◌, ◌<◌}
 use native.Mathlib.Omega.{arith}
 use borrow.Author.Rules.{rules}
 use lib.Pow.{pow-lt}
-use Rattle.block.specs.Inner.{maskBelow}
+use Rattle.block.specs.Inner.{mask_below}
 use Rattle.block.proofs.LengthLaws.{one_shifted}
 use Rattle.block.proofs.length.mask_below.Statement.{statement}
 use Rattle.block.proofs.length.mask_below.Tie as tie
@@ -19,7 +19,7 @@ cast-bits : tie.Need-overflow-cast-bits
 cast-bits c = search rules
 
 returns : tie.Need-returns
-unfolding maskBelow
+unfolding mask_below
 returns c =
     let s = c.before.before.before.before in
     let z : s.args.width - c.before.before.declared.given.0.0 + s.args.free ≡ s.args.free = omega arith in
@@ -57,15 +57,15 @@ enum-told-2 : tie.Need-enum-told-2
 enum-told-2 c = search rules
 
 returns-2 : tie.Need-returns-2
-unfolding maskBelow
+unfolding mask_below
 returns-2 c = cc
 
 returns-3 : tie.Need-returns-3
-unfolding maskBelow
+unfolding mask_below
 returns-3 c = rw (c.before.before.declared.given.1, up c, down c)
 
 returns-4 : tie.Need-returns-4
-unfolding maskBelow
+unfolding mask_below
 returns-4 c = cc
 
 pub mask-below-spec : {M : Type 1} → statement M

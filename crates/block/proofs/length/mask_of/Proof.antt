@@ -2,7 +2,7 @@
 use mathlib.Core.Path.{sym, ap, ◌∙◌}
 use borrow.Author.Rules.{rules}
 use Rattle.status.specs.declared.Use.TheVariants.{Professional}
-use Rattle.block.specs.Inner.{maskUnder}
+use Rattle.block.specs.Inner.{mask_under}
 use Rattle.block.proofs.LengthLaws.{mask-undeclared}
 use Rattle.block.proofs.length.mask_of.Statement.{statement}
 use Rattle.block.proofs.length.mask_of.Tie as tie
@@ -31,21 +31,21 @@ enum-told-2 : tie.Need-enum-told-2
 enum-told-2 c = search rules
 
 returns-2 : tie.Need-returns-2
-unfolding maskUnder
-returns-2 c = ap maskUnder (sym c.enum_told.given.1 ∙ c.before.before.meaning.ensures)
+unfolding mask_under
+returns-2 c = ap mask_under (sym c.enum_told.given.1 ∙ c.before.before.meaning.ensures)
 
 returns-3 : tie.Need-returns-3
-unfolding maskUnder
+unfolding mask_under
 returns-3 c =
     let m = c.before.before.before.before.before in
     c.mask-with.ensures
-    ∙ ap maskUnder (sym (m.audio.given.1 ∙ ap Professional c.before.before.audio2.given.1) ∙ m.before.before.meaning.ensures)
+    ∙ ap mask_under (sym (m.audio.given.1 ∙ ap Professional c.before.before.audio2.given.1) ∙ m.before.before.meaning.ensures)
 
 returns-4 : tie.Need-returns-4
-unfolding maskUnder
+unfolding mask_under
 returns-4 c =
     let m = c.before.before.before in
-    ap maskUnder (sym (m.audio.given.1 ∙ ap Professional c.enum-told2.given.1) ∙ m.before.before.meaning.ensures)
+    ap mask_under (sym (m.audio.given.1 ∙ ap Professional c.enum-told2.given.1) ∙ m.before.before.meaning.ensures)
 
 pub mask-of-spec : {M : Type 1} → statement M
 mask-of-spec =

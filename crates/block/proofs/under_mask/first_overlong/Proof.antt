@@ -5,13 +5,13 @@ use Prim.Native.Nat.{ℕ}
 use borrow.Author.Rules.{rules}
 use lib.IntN.{ℤ}
 use Rattle.bits.specs.Pick.{first}
-use Rattle.block.specs.Check.{meaningIn, overlong}
-use Rattle.block.specs.Inner.{maskUnder, masked}
+use Rattle.block.specs.Check.{meaning_in, overlong}
+use Rattle.block.specs.Inner.{mask_under, masked}
 use Rattle.block.proofs.LengthLaws.{first-masked-is}
 use Rattle.block.proofs.under_mask.first_overlong.Statement.{statement}
 use Rattle.block.proofs.under_mask.first_overlong.Tie as tie
 
-by-masks : (samples : List ℤ) (side : List ℕ) (a b r : ℕ) → a ≡ maskUnder (meaningIn side 0) → b ≡ maskUnder (meaningIn side 1)
+by-masks : (samples : List ℤ) (side : List ℕ) (a b r : ℕ) → a ≡ mask_under (meaning_in side 0) → b ≡ mask_under (meaning_in side 1)
     → r ≡ first (masked samples a b) 0 384 (λ i. i) 384 → r ≡ first (overlong samples side) 0 384 (λ i. i) 384
 by-masks samples side a b r ea eb e = rw (ea, eb) at e ∙ first-masked-is samples side
 

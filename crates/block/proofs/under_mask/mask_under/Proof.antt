@@ -2,13 +2,13 @@
 use mathlib.Core.Path.{◌≡◌, ◌∙◌}
 use Prim.Native.Nat.{ℕ}
 use borrow.Author.Rules.{rules}
-use Rattle.status.specs.Meaning.{meaningOf}
-use Rattle.block.specs.Check.{meaningIn}
-use Rattle.block.specs.Inner.{maskUnder}
+use Rattle.status.specs.Meaning.{meaning_of}
+use Rattle.block.specs.Check.{meaning_in}
+use Rattle.block.specs.Inner.{mask_under}
 use Rattle.block.proofs.under_mask.mask_under.Statement.{statement}
 use Rattle.block.proofs.under_mask.mask_under.Tie as tie
 
-three : {a b c x y z : ℕ} → a ≡ x → b ≡ y → c ≡ z → maskUnder (meaningOf a b c) ≡ maskUnder (meaningOf x y z)
+three : {a b c x y z : ℕ} → a ≡ x → b ≡ y → c ≡ z → mask_under (meaning_of a b c) ≡ mask_under (meaning_of x y z)
 three e f g = rw (e, f, g)
 
 status-byte-requires : tie.Need-status-byte-requires
@@ -24,7 +24,7 @@ mask-of-requires : tie.Need-mask-of-requires
 mask-of-requires c κs = search rules
 
 returns : tie.Need-returns
-unfolding meaningIn
+unfolding meaning_in
 returns c =
     c.mask-of.ensures
     ∙ three c.before.before.before.status-byte.ensures c.before.before.status-byte2.ensures c.before.status-byte3.ensures

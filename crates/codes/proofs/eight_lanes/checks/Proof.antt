@@ -7,8 +7,8 @@ use lib.ListN.{length, get_or, take, drop}
 use lib.Seq.{length-take-le, get_or-take}
 use Rattle.bits.specs.Row.{Below}
 use Rattle.bits.proofs.Bounds.{below-take}
-use Rattle.codes.specs.Lanes.{checkOctets}
-use Rattle.codes.proofs.Wide.{stepped, fedAll, fed-next, fed-done}
+use Rattle.codes.specs.Lanes.{check_octets}
+use Rattle.codes.proofs.Wide.{stepped, fed_all, fed-next, fed-done}
 use Rattle.codes.proofs.CheckLaws.{zeros, checks-wide}
 use Rattle.codes.proofs.eight_lanes.checks.Statement.{statement}
 use Rattle.codes.proofs.eight_lanes.checks.Tie as tie
@@ -16,23 +16,23 @@ use Rattle.codes.proofs.eight_lanes.checks.Tie as tie
 abbrev invariant-loop : tie.invariant-loop
 invariant-loop octets s0₀ s1₀ s2₀ s3₀ s4₀ s5₀ k₀ s0 s1 s2 s3 s4 s5 k =
     (k ≤ 24) × (0 < k → Below (2 ^ 8) octets)
-    × (fedAll (s0 ∷ s1 ∷ s2 ∷ s3 ∷ s4 ∷ s5 ∷ []) (drop k (take 24 octets)) ≡ fedAll zeros (take 24 octets))
+    × (fed_all (s0 ∷ s1 ∷ s2 ∷ s3 ∷ s4 ∷ s5 ∷ []) (drop k (take 24 octets)) ≡ fed_all zeros (take 24 octets))
 
 abbrev decreases-loop : tie.decreases-loop
 decreases-loop octets s0₀ s1₀ s2₀ s3₀ s4₀ s5₀ k₀ s0 s1 s2 s3 s4 s5 k = 24 - k
 
 -- a turn, over plain variables
 turn : (os : List ℕ) (s0 s1 s2 s3 s4 s5 k : ℕ) → length os ≡ 30 → k < 24
-    → fedAll (s0 ∷ s1 ∷ s2 ∷ s3 ∷ s4 ∷ s5 ∷ []) (drop k (take 24 os)) ≡ fedAll zeros (take 24 os)
-    → fedAll (stepped (s0 ∷ s1 ∷ s2 ∷ s3 ∷ s4 ∷ s5 ∷ []) (get_or os k 0)) (drop (k + 1) (take 24 os)) ≡ fedAll zeros (take 24 os)
+    → fed_all (s0 ∷ s1 ∷ s2 ∷ s3 ∷ s4 ∷ s5 ∷ []) (drop k (take 24 os)) ≡ fed_all zeros (take 24 os)
+    → fed_all (stepped (s0 ∷ s1 ∷ s2 ∷ s3 ∷ s4 ∷ s5 ∷ []) (get_or os k 0)) (drop (k + 1) (take 24 os)) ≡ fed_all zeros (take 24 os)
 turn os s0 s1 s2 s3 s4 s5 k n h e =
     let l : length (take 24 os) ≡ 24 = length-take-le 24 os (omega arith) in
-    ap (λ (d : ℕ). fedAll (stepped (s0 ∷ s1 ∷ s2 ∷ s3 ∷ s4 ∷ s5 ∷ []) d) (drop (k + 1) (take 24 os))) (sym (get_or-take 24 os k 0 h))
+    ap (λ (d : ℕ). fed_all (stepped (s0 ∷ s1 ∷ s2 ∷ s3 ∷ s4 ∷ s5 ∷ []) d) (drop (k + 1) (take 24 os))) (sym (get_or-take 24 os k 0 h))
     ∙ sym (fed-next (s0 ∷ s1 ∷ s2 ∷ s3 ∷ s4 ∷ s5 ∷ []) (take 24 os) k (omega arith)) ∙ e
 
 done : (os : List ℕ) (s0 s1 s2 s3 s4 s5 k : ℕ) → length os ≡ 30 → Below (2 ^ 8) os → 24 ≤ k
-    → fedAll (s0 ∷ s1 ∷ s2 ∷ s3 ∷ s4 ∷ s5 ∷ []) (drop k (take 24 os)) ≡ fedAll zeros (take 24 os)
-    → (s0 ∷ s1 ∷ s2 ∷ s3 ∷ s4 ∷ s5 ∷ []) ≡ checkOctets (take 24 os)
+    → fed_all (s0 ∷ s1 ∷ s2 ∷ s3 ∷ s4 ∷ s5 ∷ []) (drop k (take 24 os)) ≡ fed_all zeros (take 24 os)
+    → (s0 ∷ s1 ∷ s2 ∷ s3 ∷ s4 ∷ s5 ∷ []) ≡ check_octets (take 24 os)
 done os s0 s1 s2 s3 s4 s5 k n b h e =
     let l : length (take 24 os) ≡ 24 = length-take-le 24 os (omega arith) in
     checks-wide (take 24 os) (s0 ∷ s1 ∷ s2 ∷ s3 ∷ s4 ∷ s5 ∷ []) l (below-take (2 ^ 8) 24 os b) refl

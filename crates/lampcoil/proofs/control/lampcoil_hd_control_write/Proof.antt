@@ -7,10 +7,10 @@ use mir.Syntax.{w32}
 use mir.Val.{to_z, of_z}
 use mir.Facts.{to_z-of_z}
 use Rattle.answer.specs.Answer.{verdict}
-use Rattle.hd_control.specs.Write.{writeAnswer, controlWritten}
+use Rattle.hd_control.specs.Write.{write_answer, control_written}
 use Rattle.hd_control.specs.declared.Control.{Control}
-use Rattle.lampcoil.specs.Told.{toldVerdict}
-use Rattle.lampcoil.specs.Control.{controlLent}
+use Rattle.lampcoil.specs.Told.{told_verdict}
+use Rattle.lampcoil.specs.Control.{control_lent}
 use Rattle.lampcoil.proofs.control.lampcoil_hd_control_write.Statement.{statement}
 use Rattle.lampcoil.proofs.control.lampcoil_hd_control_write.Tie as tie
 
@@ -18,7 +18,7 @@ use Rattle.lampcoil.proofs.control.lampcoil_hd_control_write.Tie as tie
 module _ (s : tie.Start) where
   abbrev with : ℤ → ℤ → Control
   with d e =
-      controlLent s.args.group s.args.frame s.args.rate s.args.asynchronous s.args.active s.args.valid12 d
+      control_lent s.args.group s.args.frame s.args.rate s.args.asynchronous s.args.active s.args.valid12 d
       s.args.valid34 e
 
   back : with (to_z w32 (of_z w32 s.args.delay12)) (to_z w32 (of_z w32 s.args.delay34)) ≡ with s.args.delay12 s.args.delay34
@@ -39,8 +39,8 @@ returns c =
     let s = w.before.before.before in
     let old = s.args.words.now in (
       c.verdict.ensures
-          ∙ ap toldVerdict (w.write-control.ensures.0 ∙ ap (λ (f : Control). verdict (writeAnswer f (length old))) (back s)),
-      w.write-control.ensures.1 ∙ ap (λ (f : Control). controlWritten f old) (back s),
+          ∙ ap told_verdict (w.write-control.ensures.0 ∙ ap (λ (f : Control). verdict (write_answer f (length old))) (back s)),
+      w.write-control.ensures.1 ∙ ap (λ (f : Control). control_written f old) (back s),
     )
 
 pub lampcoil-hd-control-write-spec : {M : Type 1} → statement M

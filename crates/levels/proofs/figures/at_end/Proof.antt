@@ -7,11 +7,11 @@ use lib.IntN.{ℤ, pos, negsuc}
 use mir.Syntax.{w32}
 use mir.Val.{to_z, of_z}
 use mir.Facts.{to_z-of_z}
-use Rattle.levels.specs.Sheets.{atEnd}
+use Rattle.levels.specs.Sheets.{at_end}
 use Rattle.levels.proofs.figures.at_end.Statement.{statement}
 use Rattle.levels.proofs.figures.at_end.Tie as tie
 
-apart : (x : ℤ) → (of_z w32 x ≡ 8388607 → ⊥) → (of_z w32 x ≡ 4286578688 → ⊥) → atEnd x ≡ false
+apart : (x : ℤ) → (of_z w32 x ≡ 8388607 → ⊥) → (of_z w32 x ≡ 4286578688 → ⊥) → at_end x ≡ false
 apart (pos n) p q = ne_eqb n 8388607 (λ e. p (ap (λ (k : ℕ). of_z w32 (pos k)) e))
 apart (negsuc n) p q = ne_eqb n 8388607 (λ e. q (ap (λ (k : ℕ). of_z w32 (negsuc k)) e))
 

@@ -10,7 +10,7 @@ use lib.IntN.{ℤ}
 use mir.Syntax.{w64}
 use mir.Facts.{to_z-of_z}
 use Rattle.subframe.specs.Signed.{in_range}
-use Rattle.levels.specs.Sheets.{channelSamples, ofSamples}
+use Rattle.levels.specs.Sheets.{channel_samples, of_samples}
 use Rattle.levels.specs.declared.figures.Figures.{Figures}
 use Rattle.levels.proofs.Extremes.{inside-range}
 use Rattle.levels.proofs.Folds.{none-outside}
@@ -45,7 +45,7 @@ fourth-test t =
 
 abbrev Extremes : List ℤ → ℕ → Type 0
 Extremes samples c =
-    (in_range 24 (ofSamples 2 (channelSamples c samples)) ≡ true) × (in_range 24 (ofSamples 3 (channelSamples c samples)) ≡ true)
+    (in_range 24 (of_samples 2 (channel_samples c samples)) ≡ true) × (in_range 24 (of_samples 3 (channel_samples c samples)) ≡ true)
 
 either : (samples : List ℤ) → Extremes samples 0 → Extremes samples 1 → (c : ℕ) → c < 2 → Extremes samples c
 either samples a b zero h = a

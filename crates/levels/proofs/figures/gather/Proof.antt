@@ -14,7 +14,7 @@ use mir.Facts.{to_z-of_z}
 use Rattle.bits.specs.Row.{digit}
 use Rattle.bits.proofs.Digits.{digit_lt}
 use Rattle.levels.specs.Lines.{least, most}
-use Rattle.levels.specs.Sheets.{atEnd, channelSamples, ofSamples}
+use Rattle.levels.specs.Sheets.{at_end, channel_samples, of_samples}
 use Rattle.levels.proofs.Wholes.{mag_sum, least-small, most-small}
 use Rattle.levels.proofs.Extremes.{in_order}
 use Rattle.levels.proofs.Stretches.{length-channel}
@@ -26,18 +26,18 @@ use Rattle.levels.proofs.figures.gather.Tie as tie
 
 -- the figures of samples, in the code's variables; the sum grows by less than 2 ^ 31 at a turn
 record Held (xs : List ℤ) (i smallest largest total ends : ℕ) : Type 0 where
-  pub low : to_z w64 smallest ≡ ofSamples 2 (take i xs)
+  pub low : to_z w64 smallest ≡ of_samples 2 (take i xs)
   pub low_small : mag (to_z w64 smallest) < 2 ^ 31
-  pub high : to_z w64 largest ≡ ofSamples 3 (take i xs)
+  pub high : to_z w64 largest ≡ of_samples 3 (take i xs)
   pub high_small : mag (to_z w64 largest) < 2 ^ 31
-  pub all : to_z w64 total ≡ ofSamples 5 (take i xs)
+  pub all : to_z w64 total ≡ of_samples 5 (take i xs)
   pub all_small : mag (to_z w64 total) < 2 ^ 31 * i
-  pub end : ends ≡ nat_abs (ofSamples 6 (take i xs))
+  pub end : ends ≡ nat_abs (of_samples 6 (take i xs))
   pub few : ends ≤ i
 
 abbrev invariant-loop : tie.invariant-loop
 invariant-loop samples c first start smallest₀ largest₀ total₀ ends₀ i₀ smallest largest total ends i =
-    (0 < i) × (i ≤ 192) × Held (channelSamples c samples) i smallest largest total ends
+    (0 < i) × (i ≤ 192) × Held (channel_samples c samples) i smallest largest total ends
 
 abbrev decreases-loop : tie.decreases-loop
 decreases-loop samples c first start smallest₀ largest₀ total₀ ends₀ i₀ smallest largest total ends i = 192 - i
@@ -47,7 +47,7 @@ module _ (s : tie.Start invariant-loop decreases-loop) where
   samples = s.args.samples.now
 
   abbrev xs : List ℤ
-  xs = channelSamples s.args.c samples
+  xs = channel_samples s.args.c samples
 
   long : length xs ≡ 192
   long = length-channel s.args.c samples
@@ -70,7 +70,7 @@ module _ (c : tie.After-at-end invariant-loop decreases-loop) where
       to_z-of_z {w = w64} {z = c.before.wide.result} (sfits_of c.before.wide.type-inv)
       ∙ (rw (to_z-of_z {w = w32} (sfits_of c.before.before.first.given)) at c.before.wide.ensures)
 
-  end₀ : c.at-end.result ≡ digit (atEnd x₀)
+  end₀ : c.at-end.result ≡ digit (at_end x₀)
   end₀ = rw (to_z-of_z {w = w32} (sfits_of c.before.before.first.given)) at c.at-end.ensures
 
   some₀ : 0 < length (xs from)
@@ -136,8 +136,8 @@ loop-holds c =
         high_small = rw t (small₀ c);
         all = t ∙ sym (sum_first q (some₀ c) ∙ same₀ c);
         all_small = rw t (omega (arith, small₀ c));
-        end = end₀ c ∙ sym (ends-first q (some₀ c) ∙ ap (λ (z : ℤ). digit (atEnd z)) (same₀ c));
-        few = omega (arith, end₀ c, digit_lt (atEnd (x₀ c)));
+        end = end₀ c ∙ sym (ends-first q (some₀ c) ∙ ap (λ (z : ℤ). digit (at_end z)) (same₀ c));
+        few = omega (arith, end₀ c, digit_lt (at_end (x₀ c)));
       },
     )
 
@@ -180,13 +180,13 @@ at-end-requires-2 : tie.Need-at-end-requires-2 invariant-loop decreases-loop
 at-end-requires-2 c κs = tt
 
 -- what was said of its end
-ended : (c : tie.After-at-end2 invariant-loop decreases-loop) → c.at-end2.result ≡ digit (atEnd (x c.before.before.before.before.before))
+ended : (c : tie.After-at-end2 invariant-loop decreases-loop) → c.at-end2.result ≡ digit (at_end (x c.before.before.before.before.before))
 ended c = rw (to_z-of_z {w = w32} (sfits_of c.before.before.before.before.before.x.given)) at c.at-end2.ensures
 
 add-ends : tie.Need-overflow-add-ends invariant-loop decreases-loop
 add-ends c =
     let p = c.before.before.before.before.before in
-    omega (arith, ended c, digit_lt (atEnd (x p)), (held p).few, (here p).loop.invariant.1)
+    omega (arith, ended c, digit_lt (at_end (x p)), (held p).few, (here p).loop.invariant.1)
 
 add-i : tie.Need-overflow-add-i invariant-loop decreases-loop
 add-i c = omega arith
@@ -236,9 +236,9 @@ loop-again c =
         all = all₁ s ∙ ap₂ (λ (y z : ℤ). y +ℤ z) (held p).all (same p) ∙ sym (sum-next q (i p) some (inside p));
         all_small = rw (all₁ s) (omega (arith, mag_sum (to_z w64 (here p).loop.total) (x p), (held p).all_small, tiny p));
         end = ap (λ (n : ℕ). n + c.at-end2.result) (held p).end
-            ∙ ap (λ (n : ℕ). nat_abs (ofSamples 6 (take (i p) q)) + n) (ended c ∙ ap (λ (z : ℤ). digit (atEnd z)) (same p))
+            ∙ ap (λ (n : ℕ). nat_abs (of_samples 6 (take (i p) q)) + n) (ended c ∙ ap (λ (z : ℤ). digit (at_end z)) (same p))
             ∙ sym (ends_next q (i p) some (inside p));
-        few = omega (arith, ended c, digit_lt (atEnd (x p)), (held p).few);
+        few = omega (arith, ended c, digit_lt (at_end (x p)), (held p).few);
       },
     )
 

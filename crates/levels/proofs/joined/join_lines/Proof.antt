@@ -12,7 +12,7 @@ use lib.Signed.{mag}
 use mir.Syntax.{w64}
 use mir.Facts.{to_z-of_z}
 use Rattle.bits.proofs.Filling.{over, over-next, over-all, length_over}
-use Rattle.levels.specs.Lines.{line_at, samplesOn, joinedLine, sheetSound, sheetJoined, joinedAt}
+use Rattle.levels.specs.Lines.{line_at, samples_on, joined_line, sheet_sound, sheet_joined, joined_at}
 use Rattle.levels.proofs.Accepted.{at_small}
 use Rattle.levels.proofs.Places.{length-joined, at_joined, over-kept}
 use Rattle.levels.proofs.joined.join_lines.Statement.{statement}
@@ -20,7 +20,7 @@ use Rattle.levels.proofs.joined.join_lines.Tie as tie
 
 -- the sheet that was given is `old`; the first n lines are joined
 abbrev Upto : ℕ → List ℤ → List ℤ → List ℤ → Type 0
-Upto n old later sheet = sheet ≡ over n (sheetJoined old later) old
+Upto n old later sheet = sheet ≡ over n (sheet_joined old later) old
 
 -- in a channel: whatever was given, if the channels before this one are joined and m and n are its samples
 abbrev invariant-loop2 : tie.invariant-loop2
@@ -46,22 +46,22 @@ module _ (old later sheet : List ℤ) (twenty : length old ≡ 20) (c j : ℕ) (
   there : line_at sheet k ≡ line_at old k
   there =
       ap (λ (l : List ℤ). line_at l k) upto
-      ∙ over-kept k (sheetJoined old later) old k (omega (arith, length-joined old later)) (omega arith)
+      ∙ over-kept k (sheet_joined old later) old k (omega (arith, length-joined old later)) (omega arith)
 
   next : (m n : ℕ) (z : ℤ) → m ≡ nat_abs (line_at old (c * 10)) → n ≡ nat_abs (line_at later (c * 10))
-      → z ≡ joinedLine j m n (line_at sheet k) (line_at later k) → Upto (c * 10 + (j + 1)) old later (set sheet k z)
+      → z ≡ joined_line j m n (line_at sheet k) (line_at later k) → Upto (c * 10 + (j + 1)) old later (set sheet k z)
   next m n z em en e =
       let a : k % 10 ≡ j = omega arith in
       let b : k / 10 * 10 ≡ c * 10 = omega arith in
-      let d : joinedLine j m n (line_at sheet k) (line_at later k) ≡ joinedAt old later k = rw (a, b, em, en, there) in
+      let d : joined_line j m n (line_at sheet k) (line_at later k) ≡ joined_at old later k = rw (a, b, em, en, there) in
       let f : k + 1 ≡ c * 10 + (j + 1) = omega arith in
       ap₂ (λ (l : List ℤ) (y : ℤ). set l k y) upto (e ∙ d ∙ sym (at_joined old later k (omega arith)))
-      ∙ over-next k (sheetJoined old later) old (pos 0) (omega (arith, length-joined old later)) (omega (arith, twenty))
-      ∙ ap (λ (n : ℕ). over n (sheetJoined old later) old) f
+      ∙ over-next k (sheet_joined old later) old (pos 0) (omega (arith, length-joined old later)) (omega (arith, twenty))
+      ∙ ap (λ (n : ℕ). over n (sheet_joined old later) old) f
 
 set-length : (l : List ℤ) (n : ℕ) (old later : List ℤ) → length old ≡ 20 → n ≤ 20 → Upto n old later l → length l ≡ 20
 set-length l n old later h m e =
-    ap length e ∙ length_over n (sheetJoined old later) old (omega (arith, length-joined old later)) (omega (arith, h)) ∙ h
+    ap length e ∙ length_over n (sheet_joined old later) old (omega (arith, length-joined old later)) (omega (arith, h)) ∙ h
 
 -- what was given, and how far the channels are joined
 module _ (p : tie.At-loop invariant-loop2 decreases-loop2 invariant-loop decreases-loop) where
@@ -89,7 +89,7 @@ module _ (q : tie.After-line-at2 invariant-loop2 decreases-loop2 invariant-loop 
   first =
       q.before.line_at_lem.ensures
       ∙ ap nat_abs (ap (λ (l : List ℤ). line_at l (outer.loop.c * 10)) outer.loop.inv.1
-      ∙ over-kept (outer.loop.c * 10) (sheetJoined (old outer) (later outer)) (old outer) (outer.loop.c * 10)
+      ∙ over-kept (outer.loop.c * 10) (sheet_joined (old outer) (later outer)) (old outer) (outer.loop.c * 10)
       (omega (arith, length-joined (old outer) (later outer), channel)) (omega arith))
 
 -- in a channel, of what was given
@@ -119,7 +119,7 @@ loop2-holds c =
     let p = outer c in
     let n = p.loop.c * 10 in
     let z : n ≡ n + 0 = omega arith in
-    (omega arith, long p, λ old h e em en hc. e ∙ ap (λ (i : ℕ). over i (sheetJoined old (later p)) old) z)
+    (omega arith, long p, λ old h e em en hc. e ∙ ap (λ (i : ℕ). over i (sheet_joined old (later p)) old) z)
 
 mul-k : tie.Need-overflow-mul-k invariant-loop2 decreases-loop2 invariant-loop decreases-loop
 mul-k c = omega arith
@@ -195,7 +195,7 @@ loop-again c =
     let r = c.before in
     let p = outer r.before in
     let z : p.loop.c * 10 + r.loop2.j ≡ (p.loop.c + 1) * 10 = omega (arith, c.loop2-test.false, r.loop2.invariant.0) in
-    (omega (arith, channel r.before), upto r ∙ ap (λ (i : ℕ). over i (sheetJoined (old p) (later p)) (old p)) z)
+    (omega (arith, channel r.before), upto r ∙ ap (λ (i : ℕ). over i (sheet_joined (old p) (later p)) (old p)) z)
 
 same_length : tie.Need-same-length invariant-loop2 decreases-loop2 invariant-loop decreases-loop
 same_length c = long c.before ∙ sym (twenty c.before)
@@ -204,7 +204,7 @@ returns : tie.Need-returns invariant-loop2 decreases-loop2 invariant-loop decrea
 returns c =
     let p = c.before in
     p.loop.invariant.1
-    ∙ over-all (p.loop.c * 10) (sheetJoined (old p) (later p)) (old p)
+    ∙ over-all (p.loop.c * 10) (sheet_joined (old p) (later p)) (old p)
     (omega (arith, length-joined (old p) (later p), c.loop-test.false)) (omega (arith, twenty p, c.loop-test.false))
 
 pub join-lines-spec : {M : Type 1} → statement M

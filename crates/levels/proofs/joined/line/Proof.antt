@@ -4,18 +4,18 @@ use borrow.Author.Rules.{rules, sfits_of}
 use borrow.Author.Tests.{eq-eqb, ne_eqb}
 use mir.Syntax.{w64}
 use mir.Facts.{to_z-of_z}
-use Rattle.levels.specs.Lines.{joinedLine}
+use Rattle.levels.specs.Lines.{joined_line}
 use Rattle.levels.proofs.joined.line.Statement.{statement}
 use Rattle.levels.proofs.joined.line.Tie as tie
 
 returns : tie.Need-returns
-unfolding joinedLine
+unfolding joined_line
 returns c =
     rw (eq-eqb _ 0 c.if1.true)
     (to_z-of_z c.before.ranges.y)
 
 returns-2 : tie.Need-returns-2
-unfolding joinedLine
+unfolding joined_line
 returns-2 c =
     rw (ne_eqb _ 0 c.before.if1.false, eq-eqb _ 0 c.if2.true)
     (to_z-of_z c.before.before.ranges.x)
@@ -24,7 +24,7 @@ of-both-requires : tie.Need-of-both-requires
 of-both-requires c κs = search rules
 
 returns-3 : tie.Need-returns-3
-unfolding joinedLine
+unfolding joined_line
 returns-3 c =
     rw (ne_eqb _ 0 c.before.before.if1.false, ne_eqb _ 0 c.before.if2.false)
     (to_z-of_z {w = w64} (sfits_of c.of-both.type-inv) ∙ rw (

@@ -2,7 +2,7 @@
 use mathlib.Core.Path.{◌≡◌, sym, ◌∙◌}
 use mathlib.Core.Bool.{Bool, true, false, ◌&&◌}
 use borrow.Author.Rules.{rules}
-use Rattle.levels.specs.Calls.{hasRoom}
+use Rattle.levels.specs.Calls.{has_room}
 use Rattle.levels.proofs.judging.have_room.Statement.{statement}
 use Rattle.levels.proofs.judging.have_room.Tie as tie
 
@@ -28,7 +28,7 @@ returns c = both c.before.before.has_room.ensures c.before.if1.true c.has-room2.
 returns-2 : tie.Need-returns-2
 returns-2 c =
     let s = c.before.before in
-    neither (hasRoom s.args.sheet.now 10 s.args.b) c.before.has_room.ensures c.if1.false
+    neither (has_room s.args.sheet.now 10 s.args.b) c.before.has_room.ensures c.if1.false
 
 pub have-room-spec : {M : Type 1} → statement M
 have-room-spec = tie.close (tie.spec has-room-requires has-room-requires-2 returns returns-2)

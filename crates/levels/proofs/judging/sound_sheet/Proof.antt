@@ -11,13 +11,13 @@ use lib.IntN.{ℤ, nat_abs}
 use lib.ListN.{length}
 use mir.Syntax.{w64}
 use mir.Facts.{to_z-of_z}
-use Rattle.levels.specs.Lines.{line_at, samplesOn, lineSound, unsoundAt}
+use Rattle.levels.specs.Lines.{line_at, samples_on, line_sound, unsound_at}
 use Rattle.levels.proofs.Accepted.{some-unsound, all_sound, head-unsound}
 use Rattle.levels.proofs.judging.sound_sheet.Statement.{statement}
 use Rattle.levels.proofs.judging.sound_sheet.Tie as tie
 
 abbrev Passed : List ℤ → ℕ → Type 0
-Passed sheet n = (i : ℕ) → i < n → unsoundAt sheet i ≡ false
+Passed sheet n = (i : ℕ) → i < n → unsound_at sheet i ≡ false
 
 abbrev invariant-loop2 : tie.invariant-loop2
 invariant-loop2 sheet c n j₀ j = (j ≤ 10) × Passed sheet (c * 10 + j)
@@ -59,7 +59,7 @@ module _ (c : tie.After-sound-line invariant-loop2 decreases-loop2 invariant-loo
   in-sheet : k < 20
   in-sheet = omega (arith, in-channel, at-line.before.before.before.loop-test.taken)
 
-  told : c.sound-line.result ≡ lineSound (k % 10) (samplesOn (sheet outer) k) (line_at (sheet outer) k)
+  told : c.sound-line.result ≡ line_sound (k % 10) (samples_on (sheet outer) k) (line_at (sheet outer) k)
   told =
       let q = line_of outer.loop.c at-line.loop2.j in-channel in
       rw (q.0, q.1)

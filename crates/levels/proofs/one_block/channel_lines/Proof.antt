@@ -8,8 +8,8 @@ use lib.Signed.{mag}
 use mir.Syntax.{w64}
 use mir.Val.{to_z, of_z}
 use mir.Facts.{to_z-of_z}
-use Rattle.levels.specs.Sheets.{ofSide}
-use Rattle.levels.specs.Inner.{magnitudeOf}
+use Rattle.levels.specs.Sheets.{of_side}
+use Rattle.levels.specs.Inner.{magnitude_of}
 use Rattle.levels.specs.declared.figures.Figures.{Figures}
 use Rattle.levels.proofs.one_block.channel_lines.Statement.{statement}
 use Rattle.levels.proofs.one_block.channel_lines.Tie as tie
@@ -31,7 +31,7 @@ module _ (c : tie.After-struct-told2) where
   high : to_z w64 (of_z w64 f.largest) ≡ f.largest
   high = back f.largest c.struct-told2.given.1.0.1
 
-size : (c : tie.After-magnitude) → c.magnitude.result ≡ magnitudeOf (f c.before).smallest (f c.before).largest
+size : (c : tie.After-magnitude) → c.magnitude.result ≡ magnitude_of (f c.before).smallest (f c.before).largest
 size c = rw (low c.before, high c.before) at c.magnitude.ensures
 
 -- of the side table
@@ -42,15 +42,15 @@ module _ (c : tie.After-counted4) where
   abbrev from : tie.Start
   from = start told
 
-  valid : c.before.before.before.before.counted2.result ≡ pos (ofSide 7 from.args.c from.args.side.now)
-  unfolding ofSide
+  valid : c.before.before.before.before.counted2.result ≡ pos (of_side 7 from.args.c from.args.side.now)
+  unfolding of_side
   valid = c.before.before.before.before.counted2.ensures ∙ ap pos c.before.before.before.before.before.frames.ensures
 
-  faulty : c.before.before.counted3.result ≡ pos (ofSide 8 from.args.c from.args.side.now)
-  unfolding ofSide
+  faulty : c.before.before.counted3.result ≡ pos (of_side 8 from.args.c from.args.side.now)
+  unfolding of_side
   faulty = c.before.before.counted3.ensures ∙ ap pos c.before.before.before.frames2.ensures
 
-  sealed : c.counted4.result ≡ pos (ofSide 9 from.args.c from.args.side.now)
+  sealed : c.counted4.result ≡ pos (of_side 9 from.args.c from.args.side.now)
   sealed = c.counted4.ensures ∙ ap pos c.before.right.ensures
 
 magnitude-requires : tie.Need-magnitude-requires

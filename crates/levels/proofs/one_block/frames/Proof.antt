@@ -5,28 +5,28 @@ use Prim.Native.Nat.{ℕ, suc, ◌+◌, ◌*◌, ◌-◌, ◌≤◌, ◌<◌}
 use native.Mathlib.Omega.{arith}
 use lib.ListN.{length, get_or, drop}
 use Rattle.bits.specs.Row.{count}
-use Rattle.block.specs.Side.{columnLength, columnIn, columnRow}
-use Rattle.levels.specs.Sheets.{framesSet}
+use Rattle.block.specs.Side.{column_length, column_in, column_row}
+use Rattle.levels.specs.Sheets.{frames_set}
 use Rattle.levels.proofs.Folds.{column-all, column-step, column-done, ones-le}
 use Rattle.levels.proofs.one_block.frames.Statement.{statement}
 use Rattle.levels.proofs.one_block.frames.Tie as tie
 
 abbrev rest : List ℕ → ℕ → ℕ → ℕ
-rest side column i = count (columnRow (drop i (columnIn side column)))
+rest side column i = count (column_row (drop i (column_in side column)))
 
 abbrev invariant-loop : tie.invariant-loop
-invariant-loop side column n₀ i₀ n i = (i ≤ columnLength) × (n ≤ 8 * i) × (n + rest side column i ≡ framesSet column side)
+invariant-loop side column n₀ i₀ n i = (i ≤ column_length) × (n ≤ 8 * i) × (n + rest side column i ≡ frames_set column side)
 
 abbrev decreases-loop : tie.decreases-loop
-decreases-loop side column n₀ i₀ n i = columnLength - i
+decreases-loop side column n₀ i₀ n i = column_length - i
 
 -- the octet that a turn reads
 module _ (c : tie.After-shared-slice-known invariant-loop decreases-loop) where
   abbrev octet : ℕ
-  octet = get_or c.before.before.before.args.side.now (columnLength * c.before.before.before.args.column + c.before.before.loop.i) 0
+  octet = get_or c.before.before.before.args.side.now (column_length * c.before.before.before.args.column + c.before.before.loop.i) 0
 
   small : octet < 256
-  small = omega (arith, c.shared-slice-known.given (columnLength * c.before.before.before.args.column + c.before.before.loop.i))
+  small = omega (arith, c.shared-slice-known.given (column_length * c.before.before.before.args.column + c.before.before.loop.i))
 
 loop-holds : tie.Need-loop-init invariant-loop decreases-loop
 loop-holds c =

@@ -9,7 +9,7 @@ use lib.Signed.{mag}
 use mir.Syntax.{w64}
 use mir.Val.{to_z, of_z}
 use mir.Facts.{to_z-of_z}
-use Rattle.levels.specs.Inner.{tenLines}
+use Rattle.levels.specs.Inner.{ten_lines}
 use Rattle.levels.specs.declared.one_block.Lines.{Lines}
 use Rattle.levels.proofs.one_block.lay_block.Statement.{statement}
 use Rattle.levels.proofs.one_block.lay_block.Tie as tie
@@ -46,7 +46,7 @@ returns c =
       back b.e_frames c.struct-told2.given.1.1.1.1.1.1.0.1,
       back b.right c.struct-told2.given.1.1.1.1.1.1.1.0.1,
     )
-    (ap₂ (λ (x y : Lines). tenLines x ++ tenLines y) two.before.channel-lines.ensures two.channel-lines2.ensures)
+    (ap₂ (λ (x y : Lines). ten_lines x ++ ten_lines y) two.before.channel-lines.ensures two.channel-lines2.ensures)
 
 pub lay-block-spec : {M : Type 1} → statement M
 lay-block-spec = tie.close (tie.spec channel-lines-requires channel-lines-requires-2 returns)

@@ -4,7 +4,7 @@ use Prim.Native.Nat.{◌<◌}
 use native.Mathlib.Omega.{arith}
 use borrow.Author.Rules.{rules}
 use borrow.Author.Tests.{eq-eqb, ne_eqb}
-use Rattle.bits.specs.Row.{bigBits}
+use Rattle.bits.specs.Row.{big_bits}
 use Rattle.madi_code.proofs.ChannelLaws.{broken-lt}
 use Rattle.madi_read.proofs.at_boundary.no_word.Statement.{statement}
 use Rattle.madi_read.proofs.at_boundary.no_word.Tie as tie
@@ -12,7 +12,7 @@ use Rattle.madi_read.proofs.at_boundary.no_word.Tie as tie
 broken : (c : tie.After-known-told2) → c.before.c2.given.0.0 < 8
 broken c =
     let d = c.before.before.before in
-    broken-lt (bigBits 40 d.before.before.args.v) c.before.c2.given.0.0 (sym d.channel-of.ensures ∙ c.before.c2.given.1)
+    broken-lt (big_bits 40 d.before.before.args.v) c.before.c2.given.0.0 (sym d.channel-of.ensures ∙ c.before.c2.given.1)
 
 returns : tie.Need-returns
 returns c = rw (eq-eqb _ _ c.if1.true)

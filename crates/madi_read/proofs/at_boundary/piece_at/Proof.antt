@@ -7,8 +7,8 @@ use lib.ListN.{length, take}
 use lib.Seq.{length-take-le}
 use Rattle.bits.specs.Row.{Row}
 use Rattle.bits.specs.Window.{part, window}
-use Rattle.madi_code.specs.Groups.{commandOf}
-use Rattle.madi_code.specs.Channels.{channelOf}
+use Rattle.madi_code.specs.Groups.{command_of}
+use Rattle.madi_code.specs.Channels.{channel_of}
 use Rattle.madi_code.specs.Frame.{boundary}
 use Rattle.madi_code.specs.declared.ChannelBits.TheVariants.{Word}
 use Rattle.madi_code.proofs.TableLaws.{word-received}
@@ -35,19 +35,19 @@ ten c =
     first-ten a.level a.bits a.line.now (omega arith) (boundary a.n a.s) c.bits_at.result c.before.if2.false c.bits_at.ensures
 
 -- the channel that the code found
-word : (c : tie.Then3) → let s = c.before.before.before.before.before.before.before in channelOf (part (row s) (boundary s.args.n s.args.s) 40) ≡ Word c.before.word-by.result
+word : (c : tie.Then3) → let s = c.before.before.before.before.before.before.before in channel_of (part (row s) (boundary s.args.n s.args.s) 40) ≡ Word c.before.word-by.result
 word c =
     let b = c.before.before in
     let s = b.before.before.before.before.before in
     let a = s.args in
     let v = b.bits_at.result in
-    ap channelOf (sym (forty a.level a.bits a.line.now (omega arith) (boundary a.n a.s) v b.before.if2.false b.bits_at.ensures))
+    ap channel_of (sym (forty a.level a.bits a.line.now (omega arith) (boundary a.n a.s) v b.before.if2.false b.bits_at.ensures))
     ∙ word-received a.table.now v s.requires.0 (rw c.before.word-by.ensures at c.if3.true)
     ∙ ap Word (sym c.before.word-by.ensures)
 
 -- the command that it found
-command : (c : tie.After-command-of) → let s = c.before.before.before.before.before.before.before.before in c.command-of.result ≡ commandOf (window (row s) (boundary s.args.n s.args.s) 10)
-command c = c.command-of.ensures ∙ ap commandOf (ten c.before.before.before)
+command : (c : tie.After-command-of) → let s = c.before.before.before.before.before.before.before.before in c.command-of.result ≡ command_of (window (row s) (boundary s.args.n s.args.s) 10)
+command c = c.command-of.ensures ∙ ap command_of (ten c.before.before.before)
 
 mul_at : tie.Need-overflow-mul-at
 mul_at c = search rules

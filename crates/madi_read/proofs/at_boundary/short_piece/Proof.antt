@@ -4,7 +4,7 @@ use native.Mathlib.Omega.{arith}
 use borrow.Author.Rules.{rules}
 use borrow.Author.Tests.{le-leb, lt-leb, lt-ltb, le-ltb}
 use Rattle.bits.specs.Window.{window}
-use Rattle.madi_code.specs.Groups.{commandOf}
+use Rattle.madi_code.specs.Groups.{command_of}
 use Rattle.madi_read.specs.Reader.{carried}
 use Rattle.madi_read.proofs.Carrying.{length-carried, window-carried}
 use Rattle.madi_read.proofs.at_boundary.short_piece.Statement.{statement}
@@ -12,11 +12,11 @@ use Rattle.madi_read.proofs.at_boundary.short_piece.Tie as tie
 
 -- the command that the code found
 found : (c : tie.After-command-of) → let a = c.before.before.before.before.args in
-    c.command-of.result ≡ commandOf (window (carried a.level a.bits a.line.now) a.at 10)
+    c.command-of.result ≡ command_of (window (carried a.level a.bits a.line.now) a.at 10)
 found c =
     let a = c.before.before.before.before.args in
     c.command-of.ensures
-    ∙ ap commandOf (c.before.bits_at.ensures ∙ window-carried a.level a.bits a.line.now (omega arith) a.at 10 (omega arith))
+    ∙ ap command_of (c.before.bits_at.ensures ∙ window-carried a.level a.bits a.line.now (omega arith) a.at 10 (omega arith))
 
 add-if1 : tie.Need-overflow-add-if1
 add-if1 c = search rules

@@ -8,8 +8,8 @@ use lib.ListN.{length, take}
 use Rattle.bits.specs.Row.{Row}
 use Rattle.bits.specs.Window.{window}
 use Rattle.madi_code.specs.Frame.{boundary}
-use Rattle.madi_code.specs.Groups.{commandOf}
-use Rattle.madi_code.specs.Inner.{commandBy}
+use Rattle.madi_code.specs.Groups.{command_of}
+use Rattle.madi_code.specs.Inner.{command_by}
 use Rattle.madi_code.proofs.GroupLaws.{commands-placed}
 use Rattle.madi_read.specs.Reader.{carried, read_on}
 use Rattle.madi_read.specs.Inner.{sofar, Listed, Reached}
@@ -93,10 +93,10 @@ loop-again c =
     let r : Row = carried a.level a.bits a.line.now in
     let n : length (take t codes) ≡ t = length-listed t codes list (omega arith) in
     let known : k < 16 = omega (arith, c.if3.false) in
-    let e : commandOf (window r (boundary a.n (length (take t codes))) 10) ≡ k =
-    ap (λ (j : ℕ). commandOf (window r (boundary a.n j) 10)) n
-    ∙ sym (c.before.command-by.ensures ∙ ap (λ (p : List ℕ). commandBy p c.before.before.bits_at.result) l.before.command-places.ensures
-    ∙ commands-placed c.before.before.bits_at.result ∙ ap commandOf (c.before.before.bits_at.ensures
+    let e : command_of (window r (boundary a.n (length (take t codes))) 10) ≡ k =
+    ap (λ (j : ℕ). command_of (window r (boundary a.n j) 10)) n
+    ∙ sym (c.before.command-by.ensures ∙ ap (λ (p : List ℕ). command_by p c.before.before.bits_at.result) l.before.command-places.ensures
+    ∙ commands-placed c.before.before.bits_at.result ∙ ap command_of (c.before.before.bits_at.ensures
     ∙ window-carried a.level a.bits a.line.now (omega arith) (boundary a.n t) 10 (omega arith))) in (
       omega arith,
       omega arith,

@@ -4,7 +4,7 @@ use Prim.Native.Nat.{◌%◌, ◌^◌, ◌<◌}
 use native.Mathlib.Omega.{arith}
 use borrow.Author.Rules.{rules}
 use borrow.Author.Tests.{eq-eqb}
-use Rattle.madi_code.specs.Channels.{channelOf}
+use Rattle.madi_code.specs.Channels.{channel_of}
 use Rattle.madi_code.specs.declared.ChannelBits.TheVariants.{Word}
 use Rattle.madi_code.proofs.TableLaws.{word-received}
 use Rattle.madi_read.proofs.Carrying.{forty}
@@ -33,7 +33,7 @@ returns c =
     let a = b.args in
     let v = d.before.bits_at.result in
     λ h bits long fits. (
-      ap channelOf (sym (forty a.level bits a.line.now long a.at v fits d.before.bits_at.ensures))
+      ap channel_of (sym (forty a.level bits a.line.now long a.at v fits d.before.bits_at.ensures))
           ∙ word-received a.table.now v b.requires.0 (rw d.word-by.ensures at c.before.before.before.if1.true)
           ∙ ap Word (sym d.word-by.ensures),
       c.before.before.if2.true,

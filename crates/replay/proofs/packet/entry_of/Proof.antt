@@ -5,7 +5,7 @@ use Prim.Native.Nat.{ℕ, ◌≤◌}
 use native.Mathlib.Omega.{arith}
 use lib.ListN.{length}
 use Rattle.answer.specs.Answer.{Answer.accepted}
-use Rattle.answer.specs.Said.{numberSaid}
+use Rattle.answer.specs.Said.{number_said}
 use Rattle.answer.specs.declared.NumberAnswer.{NumberAnswer}
 use Rattle.answer.specs.declared.NumberAnswer.TheVariants.{Number}
 use Rattle.records.specs.Record.{kind_of}
@@ -16,10 +16,10 @@ use Rattle.replay.proofs.packet.entry_of.Statement.{statement}
 use Rattle.replay.proofs.packet.entry_of.Tie as tie
 
 -- a number that the code has is the kind
-known : (body : List ℕ) {a : NumberAnswer} {k : ℕ} → numberSaid a ≡ kind_of body → a ≡ Number k → kind_of body ≡ accepted k
-known body s e = sym s ∙ ap numberSaid e
+known : (body : List ℕ) {a : NumberAnswer} {k : ℕ} → number_said a ≡ kind_of body → a ≡ Number k → kind_of body ≡ accepted k
+known body s e = sym s ∙ ap number_said e
 
-within : (body : List ℕ) {a : NumberAnswer} {k : ℕ} → numberSaid a ≡ kind_of body → a ≡ Number k → 2 ≤ length body
+within : (body : List ℕ) {a : NumberAnswer} {k : ℕ} → number_said a ≡ kind_of body → a ≡ Number k → 2 ≤ length body
 within body {k = k} s e = kind-within body k (known body s e)
 
 kind-of-requires : tie.Need-kind-of-requires
@@ -71,7 +71,7 @@ returns : tie.Need-returns
 returns c =
     let k = c.before in
     let q = k.before.before in
-    entry-none q.before.before.args.body.now (sym q.kind-of.ensures ∙ ap numberSaid k.number.given.1)
+    entry-none q.before.before.args.body.now (sym q.kind-of.ensures ∙ ap number_said k.number.given.1)
 
 returns-2 : tie.Need-returns-2
 returns-2 c =

@@ -1,7 +1,7 @@
 -- `replay::packet::heard` meets its contract. Assumes nothing.
 use mathlib.Core.Path.{ap, ◌∙◌}
 use Rattle.answer.specs.Answer.{Answer.accepted}
-use Rattle.replay.specs.Packet.{dataHeard}
+use Rattle.replay.specs.Packet.{data_heard}
 use borrow.Author.Rules.{rules}
 use Rattle.replay.proofs.packet.heard.Statement.{statement}
 use Rattle.replay.proofs.packet.heard.Tie as tie
@@ -29,7 +29,7 @@ returns-2 c =
     let r = c.before.before in
     let k = r.before.before.before in
     let group = k.before.before.before.args.group in
-    c.of-read.ensures ∙ ap (dataHeard group (accepted k.lanes2.given.0.0)) r.read-packet.ensures.0 ∙ rw k.lanes2.given.1
+    c.of-read.ensures ∙ ap (data_heard group (accepted k.lanes2.given.0.0)) r.read-packet.ensures.0 ∙ rw k.lanes2.given.1
 
 pub heard-spec : {M : Type 1} → statement M
 heard-spec =

@@ -3,7 +3,7 @@ use mathlib.Core.Path.{sym, ap}
 use mathlib.Core.List.{[]}
 use native.Mathlib.Omega.{arith}
 use Rattle.replay.proofs.Changes.{none_left, made, wrote_none, proper-as, changes-none, changes-data, changes-control, shown_of}
-use Rattle.replay.specs.Sheet.{entryChanges}
+use Rattle.replay.specs.Sheet.{entry_changes}
 use Rattle.replay.specs.declared.Entry.{Entry}
 use borrow.Author.Rules.{rules}
 use Rattle.replay.proofs.sheet.enter.Statement.{statement}
@@ -96,7 +96,7 @@ returns-4 c =
     let o = c.before.before in
     let k = o.before.before.before in
     let s = k.before.before.before.args in
-    shown_of s.sheet.now (ap (λ (e : Entry). entryChanges e s.sheet.now) (sym k.e3.given.1)) o.enter-unread.ensures
+    shown_of s.sheet.now (ap (λ (e : Entry). entry_changes e s.sheet.now) (sym k.e3.given.1)) o.enter-unread.ensures
 
 pub enter_spec : {M : Type 1} → statement M
 enter_spec =

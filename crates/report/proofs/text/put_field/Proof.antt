@@ -1,5 +1,5 @@
 -- `report::text::put_field` meets its contract. Assumes nothing.
-use Rattle.report.specs.Night.{fieldText}
+use Rattle.report.specs.Night.{field_text}
 use Rattle.report.proofs.TextLaws.{put_then}
 use borrow.Author.Rules.{rules}
 use Rattle.report.proofs.text.put_field.Statement.{statement}
@@ -15,7 +15,7 @@ same_length : tie.Need-same-length
 same_length c = search rules
 
 returns : tie.Need-returns
-unfolding fieldText
+unfolding field_text
 returns c =
     let word = c.before.before in
     let number = word.before.before.before.before in

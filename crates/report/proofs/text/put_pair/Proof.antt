@@ -1,6 +1,6 @@
 -- `report::text::put_pair` meets its contract. Assumes nothing.
 use mathlib.Core.List.{append_assoc}
-use Rattle.report.specs.Text.{pairText}
+use Rattle.report.specs.Text.{pair_text}
 use Rattle.report.proofs.TextLaws.{put_then, put_as}
 use borrow.Author.Rules.{rules}
 use Rattle.report.proofs.text.put_pair.Statement.{statement}
@@ -25,7 +25,7 @@ same_length : tie.Need-same-length
 same_length c = search rules
 
 returns : tie.Need-returns
-unfolding pairText
+unfolding pair_text
 returns c =
     let word = c.before.before in
     let a = word.before.before.before.before in

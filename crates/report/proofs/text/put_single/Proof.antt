@@ -1,6 +1,6 @@
 -- `report::text::put_single` meets its contract. Assumes nothing.
 use mathlib.Core.List.{append_assoc}
-use Rattle.report.specs.Text.{singleText}
+use Rattle.report.specs.Text.{single_text}
 use Rattle.report.proofs.TextLaws.{put_then, put_as}
 use borrow.Author.Rules.{rules}
 use Rattle.report.proofs.text.put_single.Statement.{statement}
@@ -19,7 +19,7 @@ same_length : tie.Need-same-length
 same_length c = search rules
 
 returns : tie.Need-returns
-unfolding singleText
+unfolding single_text
 returns c =
     let word = c.before.before in
     let number = word.before.before.before.before in

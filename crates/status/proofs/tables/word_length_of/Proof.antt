@@ -3,7 +3,7 @@
 use mathlib.Core.Path.{sym, ap, ◌∙◌}
 use borrow.Author.Rules.{rules}
 use Rattle.status.specs.declared.Auxiliary.{Auxiliary}
-use Rattle.status.specs.Meaning.{wordLengthOf}
+use Rattle.status.specs.Meaning.{word_length_of}
 use Rattle.status.proofs.tables.word_length_of.Statement.{statement}
 use Rattle.status.proofs.tables.word_length_of.Tie as tie
 
@@ -32,27 +32,27 @@ enum-told-5 : tie.Need-enum-told-5
 enum-told-5 c = search rules
 
 returns : tie.Need-returns
-unfolding wordLengthOf
+unfolding word_length_of
 returns c =
-    c.word-length-up-to-24.ensures ∙ ap (λ (a : Auxiliary). wordLengthOf a c.before.before.before.args.bits) (sym c.before.enum_told.given.1)
+    c.word-length-up-to-24.ensures ∙ ap (λ (a : Auxiliary). word_length_of a c.before.before.before.args.bits) (sym c.before.enum_told.given.1)
 
 returns-2 : tie.Need-returns-2
-unfolding wordLengthOf
+unfolding word_length_of
 returns-2 c =
-    c.word-length-up-to-20.ensures ∙ ap (λ (a : Auxiliary). wordLengthOf a c.before.before.before.args.bits) (sym c.before.enum-told2.given.1)
+    c.word-length-up-to-20.ensures ∙ ap (λ (a : Auxiliary). word_length_of a c.before.before.before.args.bits) (sym c.before.enum-told2.given.1)
 
 returns-3 : tie.Need-returns-3
-unfolding wordLengthOf
+unfolding word_length_of
 returns-3 c =
-    c.word-length-up-to-202.ensures ∙ ap (λ (a : Auxiliary). wordLengthOf a c.before.before.before.args.bits) (sym c.before.enum-told3.given.1)
+    c.word-length-up-to-202.ensures ∙ ap (λ (a : Auxiliary). word_length_of a c.before.before.before.args.bits) (sym c.before.enum-told3.given.1)
 
 returns-4 : tie.Need-returns-4
-unfolding wordLengthOf
-returns-4 c = ap (λ (a : Auxiliary). wordLengthOf a c.before.before.args.bits) (sym c.enum-told4.given.1)
+unfolding word_length_of
+returns-4 c = ap (λ (a : Auxiliary). word_length_of a c.before.before.args.bits) (sym c.enum-told4.given.1)
 
 returns-5 : tie.Need-returns-5
-unfolding wordLengthOf
-returns-5 c = ap (λ (a : Auxiliary). wordLengthOf a c.before.before.args.bits) (sym c.enum-told5.given.1)
+unfolding word_length_of
+returns-5 c = ap (λ (a : Auxiliary). word_length_of a c.before.before.args.bits) (sym c.enum-told5.given.1)
 
 pub word-length-of-spec : {M : Type 1} → statement M
 word-length-of-spec =

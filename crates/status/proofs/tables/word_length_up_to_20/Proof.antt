@@ -1,36 +1,36 @@
 -- `status::tables::word_length_up_to_20` meets its contract: the rows of its table, and the rest.
 -- Assumes nothing.
 use borrow.Author.Tests.{ne_eqb}
-use Rattle.status.specs.Meaning.{in_table, wordLengthUpTo20}
+use Rattle.status.specs.Meaning.{in_table, word_length_up_to20}
 use Rattle.status.proofs.tables.word_length_up_to_20.Statement.{statement}
 use Rattle.status.proofs.tables.word_length_up_to_20.Tie as tie
 
 returns : tie.Need-returns
-unfolding in_table wordLengthUpTo20
+unfolding in_table word_length_up_to20
 returns c = rw c.match.keys1
 
 returns-2 : tie.Need-returns-2
-unfolding in_table wordLengthUpTo20
+unfolding in_table word_length_up_to20
 returns-2 c = rw c.match.keys2
 
 returns-3 : tie.Need-returns-3
-unfolding in_table wordLengthUpTo20
+unfolding in_table word_length_up_to20
 returns-3 c = rw c.match.keys3
 
 returns-4 : tie.Need-returns-4
-unfolding in_table wordLengthUpTo20
+unfolding in_table word_length_up_to20
 returns-4 c = rw c.match.keys4
 
 returns-5 : tie.Need-returns-5
-unfolding in_table wordLengthUpTo20
+unfolding in_table word_length_up_to20
 returns-5 c = rw c.match.keys5
 
 returns-6 : tie.Need-returns-6
-unfolding in_table wordLengthUpTo20
+unfolding in_table word_length_up_to20
 returns-6 c = rw c.match.keys6
 
 returns-7 : tie.Need-returns-7
-unfolding in_table wordLengthUpTo20
+unfolding in_table word_length_up_to20
 returns-7 c =
     simp (
       ne_eqb _ _ c.match.rest.0.0.0.0.0.1,
