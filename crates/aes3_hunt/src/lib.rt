@@ -15,7 +15,7 @@ use answer::{NumberAnswer, Verdict};
 use line::load;
 
 // Where a block starts, or a refusal; and how many symbols were compared, found or not.
-#[derive(Drop)]
+#[derive(Clone, Copy)]
 pub struct HuntAnswer {
     pub start: NumberAnswer,
     pub compared: u32,

@@ -18,7 +18,7 @@ use block::SIDE;
 use tables::HELD;
 
 // What reading a block answers: for each channel 1 where its CRCC is right, else 0; or a refusal.
-#[derive(Drop)]
+#[derive(Clone, Copy)]
 pub enum ReadAnswer {
     Read { crcc_a: u32, crcc_b: u32 },
     Refused { number: u32, place: u32 },

@@ -5,7 +5,7 @@ ghost use Rattle.codes.specs.Lanes.{lane_of, check_octets};
 ghost use Rattle.codes.specs.Inner.{six_octets, lack_octets};
 
 // Six octets: octet n holds check place 24 + n of each lane, lane i in bit i.
-#[derive(Drop)]
+#[derive(Clone, Copy)]
 pub(crate) struct Six {
     pub c0: u8,
     pub c1: u8,

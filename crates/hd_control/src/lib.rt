@@ -21,7 +21,7 @@ const SIGNED_CODES: i32 = 0x400_0000;
 const HALF: u32 = 0x200_0000;
 
 // What a control packet tells: of the channels of its group whether each is active, and the delays of the first and the second pair.
-#[derive(Drop)]
+#[derive(Clone, Copy)]
 pub struct Control {
     pub group: u32,
     pub frame: u32,
@@ -35,7 +35,7 @@ pub struct Control {
 }
 
 // What reading answers: the fields, or a refusal's number and place.
-#[derive(Drop)]
+#[derive(Clone, Copy)]
 pub enum ControlAnswer {
     Read(Control),
     Refused { number: u32, place: u32 },
@@ -123,7 +123,7 @@ fn in_ranges(c: Control) -> bool
 }
 
 // The three words of a delay.
-#[derive(Drop)]
+#[derive(Clone, Copy)]
 pub struct Delay {
     pub first: u16,
     pub second: u16,

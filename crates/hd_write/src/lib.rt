@@ -63,7 +63,7 @@ fn first_low(bodies: &[u32]) -> usize
 }
 
 // The octets of a channel's four words.
-#[derive(Drop)]
+#[derive(Clone, Copy)]
 pub struct Channel {
     pub first: u8,
     pub second: u8,

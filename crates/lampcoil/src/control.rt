@@ -12,7 +12,7 @@ use hd_control::{Control, ControlAnswer};
 
 // The fields of a control packet; a delay has 26 bits.
 #[repr(C)]
-#[derive(Drop)]
+#[derive(Clone, Copy)]
 pub struct ToldControl {
     pub number: u32,
     pub place: u32,

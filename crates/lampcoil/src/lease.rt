@@ -12,7 +12,7 @@ use leases::LeaseAnswer;
 
 // A tenant's slots: bit k is 1 where slot k is the tenant's after the call.
 #[repr(C)]
-#[derive(Drop)]
+#[derive(Clone, Copy)]
 pub struct ToldSlots {
     pub number: u32,
     pub place: u32,

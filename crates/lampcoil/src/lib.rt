@@ -40,7 +40,7 @@ use subframe::FieldsAnswer;
 
 // Number and place, where an operation has no value.
 #[repr(C)]
-#[derive(Drop)]
+#[derive(Clone, Copy)]
 pub struct Told {
     pub number: u32,
     pub place: u32,
@@ -48,7 +48,7 @@ pub struct Told {
 
 // One number: a body, the CRCC's stages, a lane, a DBN, lanes mended, whether a CRCC is right.
 #[repr(C)]
-#[derive(Drop)]
+#[derive(Clone, Copy)]
 pub struct ToldNumber {
     pub number: u32,
     pub place: u32,
@@ -56,7 +56,7 @@ pub struct ToldNumber {
 }
 
 #[repr(C)]
-#[derive(Drop)]
+#[derive(Clone, Copy)]
 pub struct ToldBody {
     pub number: u32,
     pub place: u32,
@@ -68,7 +68,7 @@ pub struct ToldBody {
 
 // The meaning of bytes 0 to 2 of channel status, in numbers.
 #[repr(C)]
-#[derive(Drop)]
+#[derive(Clone, Copy)]
 pub struct ToldMeaning {
     pub number: u32,
     pub place: u32,
@@ -91,7 +91,7 @@ pub struct ToldMeaning {
 }
 
 #[repr(C)]
-#[derive(Drop)]
+#[derive(Clone, Copy)]
 pub struct ToldBlock {
     pub number: u32,
     pub place: u32,
@@ -101,7 +101,7 @@ pub struct ToldBlock {
 
 // Where a block starts; `compared` stands beside a refusal too.
 #[repr(C)]
-#[derive(Drop)]
+#[derive(Clone, Copy)]
 pub struct ToldStart {
     pub number: u32,
     pub place: u32,
@@ -110,7 +110,7 @@ pub struct ToldStart {
 }
 
 #[repr(C)]
-#[derive(Drop)]
+#[derive(Clone, Copy)]
 pub struct ToldFrame {
     pub number: u32,
     pub place: u32,
@@ -119,7 +119,7 @@ pub struct ToldFrame {
 }
 
 #[repr(C)]
-#[derive(Drop)]
+#[derive(Clone, Copy)]
 pub struct ToldPacket {
     pub number: u32,
     pub place: u32,

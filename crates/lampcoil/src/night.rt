@@ -7,7 +7,7 @@ use replay::Replayed;
 
 // The stop; the octets of the records that were counted and the figures after them, also where the number is 23.
 #[repr(C)]
-#[derive(Drop)]
+#[derive(Clone, Copy)]
 pub struct ToldReplay {
     pub number: u32,
     pub place: u32,

@@ -17,7 +17,7 @@ pub const SLOTS: usize = 64;
 pub const MOVES: usize = 2 * SLOTS;
 
 // What a tenant is told: bit k of the number says whether slot k is the tenant's after the call.
-#[derive(Drop)]
+#[derive(Clone, Copy)]
 pub enum LeaseAnswer {
     Held(u64),
     Refused { number: u32, place: u32 },

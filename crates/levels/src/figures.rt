@@ -11,7 +11,7 @@ ghost use Rattle.levels.specs.Inner.{figures_of, Small};
 use crate::numbers;
 
 // What one pass over a channel's samples gives.
-#[derive(Drop)]
+#[derive(Clone, Copy)]
 pub(crate) struct Figures {
     pub(crate) smallest: i64,
     pub(crate) largest: i64,

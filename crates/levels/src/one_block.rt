@@ -9,7 +9,7 @@ use crate::figures::Figures;
 use crate::numbers;
 
 // The lines of a channel of one block, but for its count and its mark.
-#[derive(Drop)]
+#[derive(Clone, Copy)]
 struct Lines {
     smallest: i64,
     largest: i64,

@@ -15,7 +15,7 @@ use tables::{COMMANDS, GROUPS, MEANT, PLACED, TURNED};
 const SYNC: u64 = 0b11000_10001;
 
 // What a five-bit group means.
-#[derive(Drop)]
+#[derive(Clone, Copy)]
 pub enum Group {
     // Four bits as they stand in a channel's word.
     Data(u8),
@@ -25,14 +25,14 @@ pub enum Group {
 }
 
 // What 40 bits are as a channel: its word, or the first of the groups 0 to 7 that is no data group.
-#[derive(Drop)]
+#[derive(Clone, Copy)]
 pub enum ChannelBits {
     Word(u32),
     Broken(u32),
 }
 
 // What four groups mean together: added up, which shows whether all are data groups, and as 16 bits of a word.
-#[derive(Drop)]
+#[derive(Clone, Copy)]
 struct Fours {
     sum: u64,
     word: u64,

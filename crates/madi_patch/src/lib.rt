@@ -13,7 +13,7 @@ ghost use Rattle.madi_patch.specs.Inner.{Reaches, Long};
 use answer::Verdict;
 
 // What became of an output slot's row.
-#[derive(Drop)]
+#[derive(Clone, Copy)]
 pub enum SlotVerdict {
     Carried,
     None,

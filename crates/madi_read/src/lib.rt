@@ -13,7 +13,7 @@ mod line_bits;
 mod on_end;
 
 // What stands at a boundary of a frame.
-#[derive(Drop)]
+#[derive(Clone, Copy)]
 pub enum Piece {
     End,
     Command(u32),
@@ -23,7 +23,7 @@ pub enum Piece {
 
 // What reading a frame answers: how many channels are active and how many commands came, or a refusal's number and
 // place.
-#[derive(Drop)]
+#[derive(Clone, Copy)]
 pub enum ReadAnswer {
     Read { active: u32, commands: u32 },
     Refused { number: u32, place: u32 },

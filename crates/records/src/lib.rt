@@ -14,7 +14,7 @@ use answer::NumberAnswer;
 
 // The input ends; it is cut; the record is too long; there is a record to judge. With each, how many records are
 // counted then.
-#[derive(Drop)]
+#[derive(Clone, Copy)]
 pub enum Turn {
     End(u64),
     Cut(u64),
@@ -23,7 +23,7 @@ pub enum Turn {
 }
 
 // What a record comes to: the values of its kind, or a refusal's number and place.
-#[derive(Drop)]
+#[derive(Clone, Copy)]
 pub enum Outcome {
     Aes3 { a: u32, b: u32 },
     Hd { group: u32, dbn: u32 },

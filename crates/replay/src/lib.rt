@@ -14,7 +14,7 @@ const FIGURES: usize = 110;
 
 // What a record enters in the sheet: nothing; a data packet that was read, with the lanes that repair mended; a control
 // packet that was read; a packet that was refused. Group 0 is a packet without a group.
-#[derive(Drop)]
+#[derive(Clone, Copy)]
 pub enum Entry {
     Passed,
     Data { group: u32, lanes: u32, dbn: u32 },
@@ -24,7 +24,7 @@ pub enum Entry {
 
 // How a replay stands after a record: it goes on; the input ended; a length above 8,192; a cut record; a figure that would
 // pass 2^32 - 1.
-#[derive(Drop)]
+#[derive(Clone, Copy)]
 pub enum Next {
     Going,
     End,
@@ -54,7 +54,7 @@ pub fn step(sheet: &mut [u32; 110], head: &[u8], body: &[u8]) -> Next
 }
 
 // The octets that were taken, and how it ended.
-#[derive(Drop)]
+#[derive(Clone, Copy)]
 pub struct Ran {
     pub taken: usize,
     pub next: Next,
@@ -114,7 +114,7 @@ fn run(octets: &[u8], figures: &mut [u32; 110]) -> Ran
 // ---- the entry
 
 // What a replay answers: number and place, the stop; the octets that were taken and the figures, also where it is 23.
-#[derive(Drop)]
+#[derive(Clone, Copy)]
 pub struct Replayed {
     pub number: u32,
     pub place: u32,

@@ -16,7 +16,7 @@ use replay::Next;
 
 // Where the text that is printed starts, which goes to the end of the lent buffer; how many records are counted then;
 // and whether it is the report's last.
-#[derive(Drop)]
+#[derive(Clone, Copy)]
 pub struct Step {
     pub from: usize,
     pub records: u64,

@@ -8,7 +8,7 @@ mod numbers;
 mod tables;
 
 // 50 µs and 15 µs as in BS.450, or as in ITU-T J.17.
-#[derive(Drop)]
+#[derive(Clone, Copy)]
 pub enum Emphasis {
     NotIndicated,
     NoEmphasis,
@@ -17,13 +17,13 @@ pub enum Emphasis {
     Reserved(u8),
 }
 
-#[derive(Drop)]
+#[derive(Clone, Copy)]
 pub enum Lock {
     NotIndicated,
     Unlocked,
 }
 
-#[derive(Drop)]
+#[derive(Clone, Copy)]
 pub enum Rate {
     NotIndicated,
     Hz48000,
@@ -32,7 +32,7 @@ pub enum Rate {
 }
 
 // Two rows of the table are for users' own applications: the name says which.
-#[derive(Drop)]
+#[derive(Clone, Copy)]
 pub enum Mode {
     NotIndicated,
     TwoChannel,
@@ -50,7 +50,7 @@ pub enum Mode {
 
 // Blocks of 192 bits with the user's own content or as in AES52, or the general format of IEC 60958-3; two states are
 // kept for AES18 and for IEC 62537.
-#[derive(Drop)]
+#[derive(Clone, Copy)]
 pub enum User {
     NotIndicated,
     Block192,
@@ -64,7 +64,7 @@ pub enum User {
 
 // The longest word is of 20 bits where the auxiliary bits have no defined use or carry a coordination signal, and of
 // 24 where they belong to the main audio.
-#[derive(Drop)]
+#[derive(Clone, Copy)]
 pub enum Auxiliary {
     NotDefined,
     MainAudio,
@@ -74,7 +74,7 @@ pub enum Auxiliary {
 }
 
 // How many bits a sample word has; under a reserved or user-defined use of the auxiliary bits, reserved.
-#[derive(Drop)]
+#[derive(Clone, Copy)]
 pub enum WordLength {
     NotIndicated,
     Bits(u8),
@@ -82,7 +82,7 @@ pub enum WordLength {
 }
 
 // 20 dB (SMPTE RP155) or 18.06 dB (EBU R68) below the maximum code.
-#[derive(Drop)]
+#[derive(Clone, Copy)]
 pub enum Alignment {
     NotIndicated,
     Rp155,
@@ -90,7 +90,7 @@ pub enum Alignment {
     Reserved(u8),
 }
 
-#[derive(Drop)]
+#[derive(Clone, Copy)]
 pub struct Description {
     pub emphasis: Emphasis,
     pub lock: Lock,
@@ -104,27 +104,27 @@ pub struct Description {
 
 // All fields are described by the same tables for both. BS.647-3, part 3, 3.4 keeps only lock, rate, user bits and
 // the use of the auxiliary bits for another purpose; what the other fields say then is left to the reader.
-#[derive(Drop)]
+#[derive(Clone, Copy)]
 pub enum Audio {
     LinearPcm(Description),
     OtherPurpose(Description),
 }
 
-#[derive(Drop)]
+#[derive(Clone, Copy)]
 pub enum Use {
     Consumer,
     Professional(Audio),
 }
 
 // A state in numbers: its own number, and the bits of a reserved one.
-#[derive(Drop)]
+#[derive(Clone, Copy)]
 pub struct StateNumber {
     pub state: u32,
     pub bits: u32,
 }
 
 // What is not reserved has 0 for its bits; consumer use has 0 everywhere.
-#[derive(Drop)]
+#[derive(Clone, Copy)]
 pub struct MeaningNumbers {
     pub usage: u32,
     pub audio: u32,
