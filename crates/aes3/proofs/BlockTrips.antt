@@ -11,7 +11,7 @@ use lib.ListN.{length, get_or}
 use Rattle.bits.specs.Row.{odd, digit, Below}
 use Rattle.bits.specs.Pack.{symbols}
 use Rattle.bits.proofs.Digits.{digit_lt, odd-digit}
-use Rattle.answer.specs.Answer.{Answer, Answer.accepted, mapped, verdict, after, rewritten}
+use Rattle.answer.specs.Answer.{Answer.accepted, mapped, verdict, after, rewritten}
 use Rattle.answer.specs.Demand.{◌&◌}
 use Rattle.answer.proofs.Residues.{whole}
 use Rattle.line.specs.Biphase.{left}
@@ -23,7 +23,7 @@ use Rattle.block.specs.Block.{bodies_of, samples_of, side_of}
 use Rattle.block.specs.Check.{Faultless, overlong, status_checked}
 use Rattle.block.proofs.BlockLaws.{length-bodies, length-samples, length-side, proper, samples-back, side-back, even-read, bodies-back}
 use Rattle.block.proofs.CheckLaws.{Passes, met-passes, right-back, read-met}
-use Rattle.aes3_line.specs.Line.{line_from, level_before, bodies_on}
+use Rattle.aes3_line.specs.Line.{level_before, bodies_on}
 use Rattle.aes3_line.proofs.LineTrips.{line-level, read_back, write-back}
 use Rattle.aes3_line.proofs.Polarity.{line-not}
 use Rattle.aes3_write.specs.Writer.{block_line, write_answer}

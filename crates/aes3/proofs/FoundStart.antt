@@ -2,15 +2,14 @@
 use mathlib.Core.Path.{◌≡◌, refl, sym, ap, ◌∙◌}
 use mathlib.Core.Bool.{Bool, true, false, not}
 use mathlib.Core.List.{List}
-use Prim.Native.Nat.{ℕ, ◌+◌, ◌-◌}
+use Prim.Native.Nat.{ℕ, ◌-◌}
 use native.Mathlib.Nat.{add-zero}
 use native.Mathlib.Omega.{arith}
 use lib.ListN.{length, get_or}
 use Rattle.bits.specs.Row.{Row, big_bits}
-use Rattle.bits.specs.Window.{part}
 use Rattle.bits.specs.Pack.{symbols}
 use Rattle.bits.proofs.Windows.{get_d_part}
-use Rattle.answer.specs.Answer.{Answer, Answer.accepted, rewritten}
+use Rattle.answer.specs.Answer.{Answer.accepted, rewritten}
 use Rattle.line.specs.Preamble.{preamble_z, after_level}
 use Rattle.line.proofs.PreambleLaws.{after-0, after-1}
 use Rattle.block.specs.Side.{side_length}

@@ -6,7 +6,7 @@ use Prim.Native.Nat.{ℕ}
 use lib.IntN.{ℤ}
 use lib.ListN.{length}
 use Rattle.bits.specs.Row.{Below}
-use Rattle.answer.specs.Answer.{Answer, Answer.accepted, verdict, after, rewritten}
+use Rattle.answer.specs.Answer.{Answer.accepted, verdict, after, rewritten}
 use Rattle.block.specs.Side.{side_length}
 use Rattle.block.specs.Block.{samples_of, side_of}
 use Rattle.aes3_write.specs.Writer.{write_answer}

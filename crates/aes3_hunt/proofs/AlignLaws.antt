@@ -2,7 +2,7 @@
 use mathlib.Core.Path.{◌≡◌, sym, ap, ◌∙◌}
 use mathlib.Core.Bool.{false}
 use mathlib.Core.List.{List}
-use Prim.Native.Nat.{ℕ, ◌+◌, ◌*◌, ◌≤◌, ◌<◌}
+use Prim.Native.Nat.{ℕ, ◌+◌, ◌*◌, ◌<◌}
 use native.Mathlib.Nat.{add_assoc}
 use native.Mathlib.Omega.{arith}
 use borrow.Author.Tests.{eqb-true}
@@ -13,7 +13,7 @@ use Rattle.bits.specs.Pack.{symbols}
 use Rattle.bits.proofs.Windows.{length_part, get_d_part, part_same, part-all, window-lt}
 use Rattle.bits.proofs.Packing.{length-pack, get_or-pack, symbols-octets}
 use Rattle.bits.proofs.Filling.{over, over-next}
-use Rattle.answer.specs.Answer.{Answer, Answer.accepted, rewritten}
+use Rattle.answer.specs.Answer.{Answer.accepted, rewritten}
 use Rattle.answer.proofs.Chains.{met}
 use Rattle.answer.specs.Residue.{NoResidue}
 use Rattle.answer.proofs.Residues.{whole, no-residue-in}

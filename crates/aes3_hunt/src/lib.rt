@@ -1,6 +1,8 @@
 // The hunt for a block start in a line that is not aligned to octets: an outer loop over the candidates, an inner one
 // over the sixteen required symbols, which leaves a candidate at its first symbol that differs. The symbols compared
 // are counted. And the block that was found, brought to octets.
+#![tactic(auto)]
+
 ghost use Rattle.std.specs.Prelude.{◌≡◌, ◌+◌, ◌*◌, ◌^◌, ◌≤◌, ◌<◌, length};
 ghost use Rattle.bits.specs.Window.{window};
 ghost use Rattle.bits.specs.Pack.{symbols};

@@ -1,4 +1,6 @@
 // AES3 on the line, what writer and reader share: the preamble that opens each subframe, and 64 symbols after a level.
+#![tactic(auto)]
+
 ghost use Rattle.std.specs.Prelude.{◌≡◌, ◌-◌, ◌^◌};
 ghost use Rattle.bits.specs.Pick.{pick};
 ghost use Rattle.bits.specs.Row.{odd, big};

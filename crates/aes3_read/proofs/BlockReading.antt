@@ -9,7 +9,7 @@ use lib.IntN.{ℤ}
 use lib.ListN.{length}
 use Rattle.bits.specs.Row.{digit}
 use Rattle.answer.specs.Answer.{Answer, Answer.accepted, Answer.refused, mapped, after}
-use Rattle.answer.specs.Demand.{Demand, Demand.asks, provided, Stops, ◌&◌}
+use Rattle.answer.specs.Demand.{Demand.asks, provided, Stops, ◌&◌}
 use Rattle.answer.specs.Demand.Stops.{fails}
 use Rattle.answer.proofs.Chains.{stopped, passing, passed}
 use Rattle.answer.proofs.Residues.{whole}

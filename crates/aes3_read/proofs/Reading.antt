@@ -1,5 +1,5 @@
 -- A subframe read from its 64 symbols as a number, after level 0. Assumes nothing.
-use mathlib.Core.Path.{◌≡◌, refl, sym, ap, ap₂, ◌∙◌}
+use mathlib.Core.Path.{◌≡◌, sym, ap, ap₂, ◌∙◌}
 use mathlib.Core.Bool.{Bool, false}
 use Prim.Native.Nat.{ℕ, ◌+◌, ◌*◌, ◌/◌, ◌%◌, ◌^◌, ◌<◌}
 use native.Mathlib.Nat.{mod-eq_of_lt}
@@ -9,7 +9,7 @@ use lib.Bits.{bit_and, bit_xor}
 use lib.Dec.{eqb}
 use lib.ListN.{take, drop}
 use lib.Seq.{take_at, drop_at}
-use Rattle.bits.specs.Row.{Row, odd, big_bits, little, big}
+use Rattle.bits.specs.Row.{Row, big_bits, little, big}
 use Rattle.bits.specs.Window.{window}
 use Rattle.bits.proofs.Rows.{length-big_bits, big-big_bits, big_bits-mod, little-lt}
 use Rattle.answer.specs.Answer.{Answer.accepted, Answer.refused}

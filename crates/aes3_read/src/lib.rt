@@ -1,4 +1,6 @@
 // Reading a block from an AES3 line: 3,072 octets as 384 samples and a side table.
+#![tactic(auto)]
+
 ghost use Rattle.std.specs.Prelude.{◌≡◌, false, ◌<◌, length};
 ghost use Rattle.bits.specs.Row.{odd, digit, big_bits, little, big};
 ghost use Rattle.answer.specs.Answer.{mapped, verdict, after};

@@ -3,11 +3,10 @@
 use mathlib.Core.Path.{◌≡◌, refl, sym, ap, ap₂, ◌∙◌}
 use mathlib.Core.Bool.{Bool, true, false, xor}
 use mathlib.Core.List.{List, [], ◌∷◌}
-use Prim.Native.Nat.{ℕ, ◌+◌, ◌-◌, ◌*◌, ◌/◌, ◌%◌, ◌^◌, ◌<◌}
+use Prim.Native.Nat.{ℕ, ◌+◌, ◌*◌, ◌/◌, ◌%◌, ◌^◌, ◌<◌}
 use native.Mathlib.Omega.{arith}
 use lib.Bits.{bit_and, bit_xor, and_block, and_mask, xor_block, xor_zero_r, xor_shr}
 use lib.ListN.{length, get_or}
-use Rattle.bits.specs.Pick.{pick}
 use Rattle.bits.specs.Row.{odd}
 use Rattle.bits.specs.Listed.{listed}
 use Rattle.bits.proofs.Digits.{digit-cases, odd-mod}

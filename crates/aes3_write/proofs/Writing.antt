@@ -13,7 +13,6 @@ use Rattle.bits.specs.Window.{window}
 use Rattle.bits.specs.Pack.{pack, octets}
 use Rattle.bits.proofs.Rows.{length-bits, length-big_bits, bits-mod, big_lt, big-append, big-big_bits}
 use Rattle.bits.proofs.Windows.{part-all, part-drop, window-inside}
-use Rattle.line.specs.Preamble.{after_level}
 use Rattle.line.specs.Biphase.{biphase, biphase_table}
 use Rattle.line.proofs.PreambleLaws.{after-0, word_after_lem}
 use Rattle.line.proofs.BiphaseLaws.{length-biphase}

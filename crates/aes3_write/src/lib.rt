@@ -1,4 +1,6 @@
 // Writing a block on an AES3 line: 384 samples and a side table as 3,072 octets.
+#![tactic(auto)]
+
 ghost use Rattle.std.specs.Prelude.{◌≡◌, ◌++◌, true, false, ◌+◌, ◌*◌, ◌/◌, ◌%◌, ◌^◌, ◌<◌, pos, length, drop, get_or};
 ghost use Rattle.bits.specs.Row.{odd, big_bits, big};
 ghost use Rattle.bits.specs.Pack.{octets};

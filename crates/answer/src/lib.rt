@@ -1,4 +1,5 @@
 // What operations answer that several share: a value, or a refusal's number and place.
+#![tactic(auto)]
 
 // What an operation answers that gives no value, as a writer or a check: acceptance, or a refusal.
 #[derive(Clone, Copy)]

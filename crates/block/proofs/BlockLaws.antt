@@ -4,16 +4,15 @@ use mathlib.Core.Path.{◌≡◌, refl, sym, ap, ap₂, ◌∙◌, subst}
 use mathlib.Core.Bool.{true, false}
 use mathlib.Core.Logic.{⊎_elim}
 use mathlib.Core.List.{List}
-use Prim.Native.Nat.{ℕ, zero, suc, ◌+◌, ◌*◌, ◌/◌, ◌%◌, ◌^◌, ◌≤◌, ◌<◌}
+use Prim.Native.Nat.{ℕ, zero, suc, ◌+◌, ◌*◌, ◌/◌, ◌%◌, ◌≤◌, ◌<◌}
 use native.Mathlib.Omega.{arith}
 use borrow.Author.Tests.{eq-eqb}
 use lib.IntN.{ℤ, pos}
 use lib.ListN.{length, get_or, get_or-eq_default}
 use lib.Seq.{ext_get_or}
 use Rattle.bits.specs.Row.{Row, digit, odd, bit, Below}
-use Rattle.bits.specs.Listed.{listed}
 use Rattle.bits.proofs.Tests.{order}
-use Rattle.bits.proofs.Digits.{digit-odd, odd-mod}
+use Rattle.bits.proofs.Digits.{digit-odd}
 use Rattle.bits.proofs.Lists.{length-listed, get_or-listed, listed-all, length-joined, get_or-joined}
 use Rattle.subframe.specs.Signed.{in_range, code_of}
 use Rattle.answer.specs.Answer.{Answer, Answer.accepted, Answer.refused, told, after}

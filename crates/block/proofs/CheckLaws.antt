@@ -1,7 +1,7 @@
 -- What a check that found nothing says of the block, and that a block that was read can only be refused for its status
 -- or for a sample that is longer than its status declares.
 -- Assumes nothing.
-use mathlib.Core.Path.{◌≡◌, refl, sym, ap, ◌∙◌}
+use mathlib.Core.Path.{◌≡◌, refl, ap, ◌∙◌}
 use mathlib.Core.Logic.{⊎_elim}
 use mathlib.Core.Bool.{Bool, true, false, not}
 use mathlib.Core.List.{List, ◌∷◌}
@@ -18,9 +18,9 @@ use Rattle.bits.specs.Listed.{listed}
 use Rattle.bits.proofs.Tests.{pick-cases, no-yes, order}
 use Rattle.bits.proofs.Digits.{digit-cases}
 use Rattle.answer.specs.Answer.{Answer.accepted, Answer.refused}
-use Rattle.answer.specs.Demand.{Demand, Demand.finds_none, Met, AllMet, Stops, ◌&◌}
+use Rattle.answer.specs.Demand.{Demand, Demand.finds_none, AllMet, Stops, ◌&◌}
 use Rattle.answer.specs.Demand.Stops.{found}
-use Rattle.answer.proofs.Chains.{met, passing, stops, beyond}
+use Rattle.answer.proofs.Chains.{met, stops, beyond}
 use Rattle.codes.specs.Crcc.{crcc_right}
 use Rattle.subframe.specs.Signed.{in_range}
 use Rattle.subframe.proofs.BodyTrips.{sample_in}

@@ -1,13 +1,13 @@
 -- A column's row octet by octet, for what counts frames in it; and two tests of the checks as they stand. Assumes nothing.
 use mathlib.Core.Path.{◌≡◌, refl}
-use mathlib.Core.Bool.{Bool, not, ◌&&◌}
+use mathlib.Core.Bool.{not}
 use mathlib.Core.List.{List, [], ◌∷◌, ◌++◌}
 use Prim.Native.Nat.{ℕ, ◌*◌, ◌≤◌, ◌<◌}
 use native.Mathlib.Omega.{arith}
 use borrow.Author.Tests.{eq-eqb, lt-ltb}
 use lib.IntN.{ℤ, pos}
 use lib.ListN.{length, get_or, drop, length-take}
-use Rattle.bits.specs.Row.{Row, bits}
+use Rattle.bits.specs.Row.{bits}
 use Rattle.bits.specs.Pack.{chain}
 use Rattle.bits.proofs.Packing.{lowest, length-chain}
 use Rattle.codes.specs.Crcc.{crcc_right}

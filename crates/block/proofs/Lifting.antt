@@ -16,7 +16,6 @@ use lib.Signed.{mag, non_neg}
 use mir.Syntax.{w32, w64}
 use mir.Val.{SFits, Fits, to_z, of_z}
 use mir.Facts.{to_z-of_z}
-use Rattle.bits.specs.Pick.{pick}
 use Rattle.bits.proofs.Beside.{same_or_not}
 use Rattle.bits.proofs.Digits.{digit-cases}
 use Rattle.subframe.specs.Signed.{in_range, code_of}

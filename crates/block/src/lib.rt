@@ -1,5 +1,7 @@
 // A block: 384 samples and a side table of V, U, C and E. Samples and side table from bodies, and what a writer checks
 // of them.
+#![tactic(auto)]
+
 ghost use Rattle.std.specs.Prelude.{◌≡◌, length};
 ghost use Rattle.answer.specs.Answer.{verdict, after};
 ghost use Rattle.answer.specs.Said.{verdict_said};

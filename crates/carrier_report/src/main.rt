@@ -1,8 +1,12 @@
 // Reads records from standard input and writes the report on them to standard output: the rule is the library's, and
 // this only reads, calls it and writes. It holds one record at most, and what is printed of it is written before the
 // next one is read.
+#![tactic(auto)]
+
 ghost use Rattle.std.specs.Prelude.{◌≡◌, length};
 ghost use Rattle.io.specs.Counts.{IsPrefixLen};
+
+use std::io::{Read, Stdin};
 
 // Zeros for the longest record. A goal then has only this length to say of the buffer, and not the zeros.
 fn no_octets() -> [u8; 8192]
@@ -18,29 +22,31 @@ fn tell_failure() {
 
 // Reads until buf is full, the input ends or a read fails, and answers how many octets it put at the start of buf; with
 // no call for none. A failure is told, and is then as an end of the input.
-fn read(buf: &mut [u8]) -> usize
+fn read(mut input: Stdin, buf: &mut [u8]) -> usize
     ensures { IsPrefixLen result buf.new }
 {
     let mut done = 0;
     while done < buf.len() {
-        let rest = &mut buf[done..];
-        let got = libc::read(0, rest);
-        if got < 0 {
-            tell_failure();
-            return done;
+        match input.read(&mut buf[done..]) {
+            Ok(more) => {
+                if more == 0 {
+                    return done;
+                }
+                done += more;
+            }
+            Err(_) => {
+                tell_failure();
+                return done;
+            }
         }
-        let more = io::count(got, rest);
-        if more == 0 {
-            return done;
-        }
-        done += more;
     }
     done
 }
 
 // Each turn but the last counts a record, and the count cannot grow for ever. A write that fails ends the program:
 // nothing more is read for a report that nobody gets.
-fn main() {
+fn main(rt: HostRuntime) {
+    let input = rt.stdin();
     let mut head = [0u8; 4];
     let mut body = no_octets();
     let mut out = [0u8; 128];
@@ -50,9 +56,9 @@ fn main() {
     }
     let mut n: u64 = 0;
     loop {
-        let got = read(&mut head);
+        let got = read(input, &mut head);
         let size = records::body_size(&head[..got]);
-        let had = read(&mut body[..size]);
+        let had = read(input, &mut body[..size]);
         let step = report::print(n, &head[..got], &body[..had], &mut out);
         let from = step.from;
         if !io::write_all(1, &out[from..]) {

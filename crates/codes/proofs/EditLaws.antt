@@ -19,7 +19,7 @@ use Rattle.bits.proofs.Xor.{xor-twice}
 use Rattle.bits.proofs.XorRows.{big_bits-xor}
 use Rattle.bits.proofs.Beside.{little-xor, same_or_not}
 use Rattle.bits.proofs.Packing.{chain-append, chain-one}
-use Rattle.answer.specs.Answer.{Answer.accepted, Answer.refused, rewritten}
+use Rattle.answer.specs.Answer.{Answer.accepted, rewritten}
 use Rattle.answer.specs.Residue.{InPlace}
 use Rattle.answer.proofs.Chains.{met}
 use Rattle.answer.proofs.Residues.{whole, in_place}

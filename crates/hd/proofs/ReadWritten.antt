@@ -1,9 +1,8 @@
 -- What the writer accepts is read back unchanged, from the words that it leaves: the fields and the bodies. Assumes
 -- nothing.
 use mathlib.Core.Path.{◌≡◌, refl, sym, ap, ap₂, ◌∙◌, subst}
-use mathlib.Core.Bool.{true, false}
 use mathlib.Core.List.{List, [], ◌∷◌}
-use Prim.Native.Nat.{ℕ, ◌^◌, ◌<◌}
+use Prim.Native.Nat.{ℕ, ◌^◌}
 use native.Mathlib.Omega.{arith}
 use borrow.Author.Tests.{eq-eqb, eqb-true}
 use lib.ListN.{length, get_or}
@@ -18,13 +17,13 @@ use Rattle.anc.specs.Enclosed.{sum_stands}
 use Rattle.codes.specs.Lanes.{check_octets}
 use Rattle.codes.proofs.CheckLaws.{checks-satisfy}
 use Rattle.codes.proofs.RepairedLanes.{satisfied-passes}
-use Rattle.hd_packet.specs.Packet.{octets_of, packet_of, did, dc, group_of_did, packet_head, data_octets, fields_in, bodies_in, spare_demands, odd_body}
+use Rattle.hd_packet.specs.Packet.{octets_of, packet_of, did, dc, packet_head, data_octets, fields_in, bodies_in, spare_demands, odd_body}
 use Rattle.hd_packet.specs.declared.Fields.{Fields}
 use Rattle.hd_packet.proofs.PacketLaws.{length-packet}
 use Rattle.hd_packet.proofs.Laid.{length-data, fields_back, spares-clear}
 use Rattle.hd_packet.proofs.Laid.{bodies-back as laid-back}
 use Rattle.hd_packet.proofs.Words.{narrow, right-words, right-sum, group-named, head-stands}
-use Rattle.hd_write.specs.Write.{write_answer, packet_written, words_written}
+use Rattle.hd_write.specs.Write.{write_answer, words_written}
 use Rattle.hd_write.proofs.WriteLaws.{written_octets, length-written, packet-of-octets, written_below, written-octets, Accepted, packet-left, clear-body}
 use Rattle.hd_read.specs.Read.{word_demands, octet_demands, read_demands, read_answer, fields_read, bodies_read, bodies_after}
 use Rattle.hd_read.proofs.ReadLaws.{reads}

@@ -1,7 +1,7 @@
 -- Repair between writer and reader: every lane of a written packet satisfies the code; a written packet with at most one changed place in
 -- each lane, whatever happened to b8, b9 and CS, is given back with the number of lanes that were changed; two changed places in one lane
 -- are refused, at the first such lane; and each lane of an accepted output is lane repair's answer. Assumes nothing.
-use mathlib.Core.Path.{◌≡◌, refl, sym, ap, ◌∙◌, subst}
+use mathlib.Core.Path.{◌≡◌, sym, ap, ◌∙◌, subst}
 use mathlib.Core.Bool.{true, false}
 use mathlib.Core.List.{List}
 use Prim.Native.Nat.{ℕ, ◌+◌, ◌^◌, ◌≤◌, ◌<◌}

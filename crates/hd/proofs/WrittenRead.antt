@@ -1,11 +1,11 @@
 -- Writing back an accepted packet, with the bodies that the reader leaves, gives the same 31 words. Assumes nothing.
-use mathlib.Core.Path.{◌≡◌, refl, sym, ap, ap₂, ◌∙◌, subst}
-use mathlib.Core.Bool.{true, false}
+use mathlib.Core.Path.{◌≡◌, sym, ap, ap₂, ◌∙◌, subst}
+use mathlib.Core.Bool.{false}
 use mathlib.Core.List.{List, [], ◌∷◌, ◌++◌}
 use Prim.Native.Nat.{ℕ, ◌+◌, ◌*◌, ◌%◌, ◌^◌, ◌≤◌, ◌<◌}
 use native.Mathlib.Omega.{arith}
 use borrow.Author.Tests.{eqb-true}
-use lib.ListN.{length, get_or, take, drop, take-append-drop}
+use lib.ListN.{length, get_or, take, take-append-drop}
 use Rattle.bits.specs.Row.{Below}
 use Rattle.answer.specs.Answer.{Answer, Answer.accepted, mapped, verdict, after, rewritten}
 use Rattle.answer.specs.Demand.{Demand.asks, Demand.finds_none, AllMet}
@@ -17,7 +17,7 @@ use Rattle.anc.specs.Enclosed.{sum_stands}
 use Rattle.codes.specs.Lanes.{check_octets}
 use Rattle.codes.proofs.CheckLaws.{satisfied-checks}
 use Rattle.codes.proofs.RepairedLanes.{passes-satisfied}
-use Rattle.hd_packet.specs.Packet.{octets_of, packet_of, group_of_did, packet_head, data_octets, fields_in, body_at, bodies_in, spare_demands, odd_body}
+use Rattle.hd_packet.specs.Packet.{octets_of, packet_of, group_of_did, packet_head, data_octets, fields_in, bodies_in, spare_demands, odd_body}
 use Rattle.hd_packet.specs.declared.Fields.{Fields}
 use Rattle.hd_packet.proofs.PacketLaws.{length-octets, octets-below}
 use Rattle.hd_packet.proofs.Channels.{body-in, body-low, four-bodies}

@@ -1,6 +1,6 @@
 -- Laws of the ranges, of the values of a packet's words, and of what is read of them. Assumes nothing.
 use mathlib.Core.Path.{◌≡◌, refl, sym, ap, ap₂, ◌∙◌}
-use mathlib.Core.Bool.{true, false, not, ◌&&◌}
+use mathlib.Core.Bool.{true, false, ◌&&◌}
 use mathlib.Core.List.{List, [], ◌∷◌, ◌++◌}
 use Prim.Native.Nat.{ℕ, zero, suc, ◌+◌, ◌-◌, ◌*◌, ◌/◌, ◌%◌, ◌^◌, ◌≤◌, ◌<◌}
 use native.Mathlib.Omega.{arith}
@@ -17,9 +17,9 @@ use Rattle.anc.specs.Enclosed.{words_by, enclosed}
 use Rattle.anc.proofs.SumLaws.{opposed-none}
 use Rattle.anc.proofs.Enclosing.{length-words, length-enclosed}
 use Rattle.anc.proofs.Heads.{each-group, in_full, full-word}
-use Rattle.subframe.specs.Signed.{in_range, code_of, signed_of}
+use Rattle.subframe.specs.Signed.{in_range, signed_of}
 use Rattle.subframe.proofs.SignedLaws.{code_lt}
-use Rattle.hd_control.specs.Control.{control_dids, control_dc, rule_of, delay_number, delay_words, control_values, control_packet, delay_at, control_in}
+use Rattle.hd_control.specs.Control.{control_dids, control_dc, rule_of, delay_number, control_values, control_packet, delay_at, control_in}
 use Rattle.hd_control.specs.Write.{control_in_ranges}
 use Rattle.hd_control.specs.Inner.{ControlRanges, three_words, words_of_delay}
 use Rattle.hd_control.specs.declared.Control.{Control}

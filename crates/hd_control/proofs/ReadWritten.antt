@@ -1,10 +1,10 @@
 -- Writing back an accepted packet gives the same 18 words, so that reading loses nothing. Assumes nothing.
 use mathlib.Core.Path.{◌≡◌, refl, sym, ap, ◌∙◌, subst}
-use mathlib.Core.Bool.{true, false, not}
+use mathlib.Core.Bool.{false}
 use mathlib.Core.List.{List, [], ◌∷◌}
 use Prim.Native.Nat.{ℕ, zero, suc, ◌+◌, ◌*◌, ◌/◌, ◌%◌, ◌^◌, ◌≤◌, ◌<◌}
 use native.Mathlib.Omega.{arith}
-use borrow.Author.Tests.{eq-eqb, eqb-true}
+use borrow.Author.Tests.{eqb-true}
 use lib.ListN.{length, get_or, take, drop}
 use lib.Seq.{ext_get_or}
 use Rattle.answer.specs.Answer.{Answer, Answer.accepted, verdict, rewritten}
@@ -13,11 +13,11 @@ use Rattle.answer.proofs.Chains.{passing, parts-met}
 use Rattle.answer.proofs.Chains.{met as met_by}
 use Rattle.answer.proofs.Residues.{whole}
 use Rattle.anc.specs.Word.{width_by, wide_at, wrong_at}
-use Rattle.anc.specs.Head.{did_in, group_in, head_demands}
+use Rattle.anc.specs.Head.{group_in, head_demands}
 use Rattle.anc.specs.Enclosed.{words_by, values_by, enclosed, sum_stands, enclosed_demands}
 use Rattle.anc.proofs.Heads.{Named, names}
 use Rattle.anc.proofs.Enclosing.{packet-back, run-values, run_value}
-use Rattle.subframe.specs.Signed.{code_of, signed_of}
+use Rattle.subframe.specs.Signed.{signed_of}
 use Rattle.subframe.proofs.SignedLaws.{signed-in, code-signed}
 use Rattle.hd_control.specs.Control.{control_dids, control_dc, control_head, rule_of, delay_number, control_values, control_packet, delay_at, control_in}
 use Rattle.hd_control.specs.Write.{write_demands, write_answer, control_written}

@@ -1,5 +1,5 @@
 -- What the writer accepts is read back unchanged, from the words that it leaves. Assumes nothing.
-use mathlib.Core.Path.{◌≡◌, refl, sym, ap, ap₂, ◌∙◌, subst}
+use mathlib.Core.Path.{◌≡◌, refl, sym, ap, ap₂, ◌∙◌}
 use mathlib.Core.Bool.{Bool, true, false, not}
 use mathlib.Core.List.{List, [], ◌∷◌}
 use Prim.Native.Nat.{ℕ, ◌+◌, ◌*◌, ◌/◌, ◌%◌, ◌^◌, ◌≤◌, ◌<◌}
@@ -11,7 +11,7 @@ use Rattle.answer.specs.Answer.{Answer, Answer.accepted, verdict, rewritten}
 use Rattle.answer.specs.Demand.{Demand.asks, Demand.finds_none, AllMet, ◌&◌}
 use Rattle.answer.proofs.Chains.{value_of, met, passing, both-met}
 use Rattle.answer.proofs.Residues.{whole as filled}
-use Rattle.anc.specs.Word.{opposed, word_of, wrong_at}
+use Rattle.anc.specs.Word.{wrong_at}
 use Rattle.anc.specs.Head.{did_in, group_in, head_demands}
 use Rattle.anc.specs.Enclosed.{words_by, enclosed, sum_stands, enclosed_demands}
 use Rattle.anc.proofs.SumLaws.{opposed-none}

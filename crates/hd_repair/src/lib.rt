@@ -1,4 +1,6 @@
 // Repair of HD audio data packets.
+#![tactic(auto)]
+
 ghost use Rattle.std.specs.Prelude.{◌≡◌, length};
 ghost use Rattle.answer.specs.Answer.{mapped};
 ghost use Rattle.answer.specs.Said.{number_said};

@@ -1,4 +1,6 @@
 // The writer of HD audio data packets.
+#![tactic(auto)]
+
 ghost use Rattle.std.specs.Prelude.{◌≡◌, [], ◌∷◌, ◌++◌, ◌≤◌, length, replicate};
 ghost use Rattle.answer.specs.Answer.{verdict};
 ghost use Rattle.answer.specs.Said.{verdict_said};

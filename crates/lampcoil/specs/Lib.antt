@@ -4,3 +4,4 @@ pub mod Control
 pub mod Night
 pub mod Slots
 pub mod Lent
+pub mod Version

@@ -2,6 +2,8 @@
 // below that does the work and lays it into a struct: number and place first, the values after them, which are 0 on a
 // refusal (but for the hunt's count). Where an answer is one number, one struct serves; the header has a name for each
 // of its uses.
+#![tactic(auto)]
+
 ghost use Rattle.std.specs.Prelude.{◌≡◌, length};
 ghost use Rattle.answer.specs.Answer.{Answer.accepted, mapped, verdict, after, rewritten};
 ghost use Rattle.subframe.specs.Body.{body_written, body_read};
@@ -31,6 +33,7 @@ mod lease;
 mod level;
 mod night;
 mod patch;
+mod version;
 mod voice;
 
 use hd_packet::Fields;

@@ -5,7 +5,7 @@ use mathlib.Core.Bool.{true}
 use mathlib.Core.List.{List, [], ◌∷◌}
 use Prim.Native.Nat.{ℕ, ◌-◌, ◌*◌, ◌≤◌, ◌<◌}
 use native.Mathlib.Omega.{arith}
-use borrow.Author.Tests.{eq-eqb, eqb-true, le-leb, lt-leb, leb-true, leb-false}
+use borrow.Author.Tests.{eq-eqb, eqb-true, lt-leb, leb-true, leb-false}
 use lib.Dec.{leb}
 use lib.ListN.{length, replicate, length-append, length-replicate}
 use Rattle.bits.proofs.Tests.{both_true}
@@ -110,6 +110,7 @@ module _ (t n : ℕ) (table : List ℕ) (one : tenant t ≡ true) (some : reques
     where
       last : Stops (asks 21 0 (enough_free n table) ∷ []) 21 0 → held_by 0 table < n
       last (fails f) = leb-false n (held_by 0 table) f
+      last (later _ x10) = elim x10 [ ]
 
 -- giving back with no slots is accepted and changes nothing
 pub giving-back-nothing : (t : ℕ) (table : List ℕ) → tenant t ≡ true → length table ≡ 64 → held_by t table ≡ 0

@@ -13,7 +13,7 @@ use lib.ListN.{length, get_or, take}
 use Rattle.bits.specs.Pick.{pick}
 use Rattle.bits.specs.Row.{digit, count}
 use Rattle.bits.proofs.Tests.{order}
-use Rattle.answer.specs.Answer.{Answer.accepted, after}
+use Rattle.answer.specs.Answer.{Answer.accepted}
 use Rattle.answer.specs.Residue.{NoResidue, InPlace}
 use Rattle.answer.proofs.Chains.{met}
 use Rattle.answer.proofs.Residues.{no-residue, in_place}

@@ -1,5 +1,7 @@
 // The lease table of 64 slots: a tenant asks for slots and gives its own back, and the house closes the gaps. An octet
 // of the table is the tenant of its slot, or 0 where the slot is free.
+#![tactic(auto)]
+
 ghost use Rattle.std.specs.Prelude.{◌≡◌, ◌+◌, ◌*◌, ◌≤◌, eqb, length};
 ghost use Rattle.bits.specs.Row.{digit};
 ghost use Rattle.answer.specs.Answer.{mapped};

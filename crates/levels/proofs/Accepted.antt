@@ -1,16 +1,16 @@
 -- What an accepted sheet says of each line. Assumes nothing.
-use mathlib.Core.Path.{◌≡◌, refl, sym, ap, ◌∙◌}
+use mathlib.Core.Path.{◌≡◌, refl, ap}
 use mathlib.Core.Bool.{Bool, true, false, not}
 use mathlib.Core.List.{List}
-use Prim.Native.Nat.{ℕ, zero, suc, ◌+◌, ◌*◌, ◌/◌, ◌%◌, ◌≤◌, ◌<◌, ◌^◌}
+use Prim.Native.Nat.{ℕ, ◌+◌, ◌*◌, ◌/◌, ◌%◌, ◌≤◌, ◌<◌, ◌^◌}
 use native.Mathlib.Omega.{arith}
-use borrow.Author.Tests.{lt-ltb, le-ltb, ltb-true, ltb-false, leb-true, leb-false}
-use borrow.Author.Tests.{le-leb, lt-leb, eqb-true, eq-eqb, ne_eqb, not-true, not-false}
+use borrow.Author.Tests.{ltb-true, leb-true}
+use borrow.Author.Tests.{ne_eqb, not-false}
 use lib.Dec.{eqb}
 use lib.IntN.{ℤ, pos, negsuc, nat_abs}
 use lib.Signed.{mag}
-use Rattle.bits.specs.Pick.{pick, first}
-use Rattle.bits.proofs.Tests.{pick-cases, no-yes, order}
+use Rattle.bits.specs.Pick.{pick}
+use Rattle.bits.proofs.Tests.{pick-cases, no-yes}
 use Rattle.answer.proofs.Chains.{search-cases}
 use Rattle.levels.specs.Lines.{inside, low_of, high_of, mark_right, line_sound, line_at, samples_on, unsound_at, sheet_sound}
 

@@ -1,13 +1,13 @@
 -- Adding one by one is never refused for blocks that are fit, up to 2 ^ 32 samples a channel. Assumes nothing.
-use mathlib.Core.Path.{◌≡◌, refl, sym, ap, ◌∙◌}
+use mathlib.Core.Path.{◌≡◌, sym, ap, ◌∙◌}
 use mathlib.Core.Bool.{true}
 use mathlib.Core.List.{List, [], ◌∷◌, ◌++◌, append_assoc, append-nil}
-use Prim.Native.Nat.{ℕ, ◌+◌, ◌*◌, ◌≤◌, ◌<◌}
+use Prim.Native.Nat.{◌+◌, ◌*◌, ◌≤◌}
 use native.Mathlib.Omega.{arith}
 use borrow.Author.Tests.{eq-eqb, le-leb}
-use lib.IntN.{ℤ, nat_abs}
+use lib.IntN.{nat_abs}
 use lib.ListN.{length, length-append}
-use Rattle.answer.specs.Answer.{Answer, Answer.accepted}
+use Rattle.answer.specs.Answer.{Answer.accepted}
 use Rattle.answer.specs.Demand.{◌&◌}
 use Rattle.answer.proofs.Chains.{passing}
 use Rattle.block.specs.Side.{side_length}

@@ -1,35 +1,33 @@
 -- The sheet of one block is accepted, and so is what adding leaves. Assumes nothing.
 use mathlib.Core.Path.{◌≡◌, refl, sym, ap, ◌∙◌}
 use mathlib.Core.Bool.{Bool, true, false, not}
-use mathlib.Core.Logic.{◌⊎◌, ⊎_elim}
-use mathlib.Core.List.{List, [], ◌∷◌, ◌++◌, append-nil}
-use Prim.Native.Nat.{ℕ, zero, suc, ◌+◌, ◌*◌, ◌-◌, ◌/◌, ◌%◌, ◌≤◌, ◌<◌}
-use native.Mathlib.Nat.{zero-add, add-zero}
+use mathlib.Core.List.{List, [], ◌∷◌, append-nil}
+use Prim.Native.Nat.{ℕ, zero, suc, ◌+◌, ◌*◌, ◌/◌, ◌%◌, ◌≤◌, ◌<◌}
+use native.Mathlib.Nat.{add-zero}
 use native.Mathlib.Omega.{arith}
-use borrow.Author.Tests.{lt-ltb, le-ltb, ltb-true, ltb-false, leb-true, leb-false, le-leb, ne_eqb, eqb-true, not-false}
-use lib.Dec.{eqb, leb, ltb}
-use lib.IntN.{ℤ, pos, negsuc, nat_abs}
+use borrow.Author.Tests.{lt-ltb, ltb-true, ltb-false, le-leb, ne_eqb, not-false}
+use lib.Dec.{eqb, ltb}
+use lib.IntN.{ℤ, pos, negsuc}
 use lib.ListN.{length, get_or}
 use lib.Signed.{mag}
-use Rattle.bits.specs.Pick.{pick}
-use Rattle.bits.specs.Row.{count, digit}
-use Rattle.bits.proofs.Tests.{order, pick-cases}
+use Rattle.bits.specs.Row.{digit}
+use Rattle.bits.proofs.Tests.{pick-cases}
 use Rattle.bits.proofs.Lists.{get_or-listed}
 use Rattle.bits.proofs.Counts.{count-le}
 use Rattle.bits.proofs.Digits.{digit_lt}
-use Rattle.answer.specs.Answer.{Answer, Answer.accepted}
+use Rattle.answer.specs.Answer.{Answer.accepted}
 use Rattle.answer.proofs.Chains.{met}
 use Rattle.codes.specs.Crcc.{crcc_right}
 use Rattle.block.specs.Side.{validity, fault, columns, column_in, column_row}
-use Rattle.block.specs.Check.{status_of, outside}
+use Rattle.block.specs.Check.{status_of}
 use Rattle.block.proofs.Frames.{row-le, outside-is}
-use Rattle.levels.specs.Lines.{both, inside, low_of, high_of, mark_right, line_sound, line_at, samples_on, sheet_sound, sheet_joined}
+use Rattle.levels.specs.Lines.{low_of, high_of, mark_right, line_sound, line_at, samples_on, sheet_sound, sheet_joined}
 use Rattle.levels.specs.Sheets.{Block, channel_samples, samples_in, at_end, of_one, of_samples}
 use Rattle.levels.specs.Sheets.{frames_set, of_side, of_sides, line_in, sheet_of}
-use Rattle.levels.specs.Calls.{has_room, Fit, add_demands, add_answer}
+use Rattle.levels.specs.Calls.{Fit, add_demands, add_answer}
 use Rattle.levels.proofs.Accepted.{all_sound, line_made, tail-reach}
 use Rattle.levels.proofs.Kept.{both-kept, joined-sound}
-use Rattle.levels.proofs.Stretches.{folded-samples, length-channel, length-samples, head-sheet}
+use Rattle.levels.proofs.Stretches.{folded-samples, length-channel, head-sheet}
 use Rattle.levels.proofs.Places.{length-joined, at-sheet}
 
 -- samples of 24 bits
@@ -67,7 +65,7 @@ folded-sound j (x ∷ []) h p l r = one-sound j x h (r 0 (omega arith))
 folded-sound j (x ∷ y ∷ ys) h p l r =
     let n : 1 + length (y ∷ ys) ≡ length (x ∷ y ∷ ys) = omega arith in
     rw n at (both-kept 1 (length (y ∷ ys)) (omega arith) (omega arith) (of_one j x) (of_samples j (y ∷ ys)) j (omega arith)
-    (λ e. rw e (first_one x)) (λ e. rw e (folded-samples (y ∷ ys))) (one-sound j x h (r 0 (omega arith)))
+    (λ e. rw e (first_one x)) (λ e. ap (λ (i : ℕ). of_samples i (y ∷ ys)) e ∙ folded-samples (y ∷ ys)) (one-sound j x h (r 0 (omega arith)))
     (folded-sound j (y ∷ ys) h (omega arith) (omega arith) (λ i q. r (suc i) (omega arith))))
 
 -- ---- the counts of a side table

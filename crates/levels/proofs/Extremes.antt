@@ -10,7 +10,6 @@ use borrow.Author.Tests.{lt-ltb, ltb-true, leb-true, le-leb}
 use lib.IntN.{ℤ, pos, negsuc, nat_abs}
 use lib.ListN.{length, get_or}
 use lib.Signed.{le_z}
-use Rattle.bits.specs.Pick.{pick}
 use Rattle.bits.proofs.Tests.{pick-cases, no-yes}
 use Rattle.subframe.specs.Signed.{in_range}
 use Rattle.levels.specs.Lines.{least, most, both, inside}

@@ -1,8 +1,8 @@
 -- What one turn of the loops over a block's samples and octets does, and the sheet that is laid of it. Assumes nothing.
 use mathlib.Core.Path.{◌≡◌, refl, sym, ap, ◌∙◌}
-use mathlib.Core.Bool.{Bool, true, false, not}
-use mathlib.Core.List.{List, [], ◌∷◌, ◌++◌}
-use Prim.Native.Nat.{ℕ, zero, suc, ◌+◌, ◌*◌, ◌/◌, ◌%◌, ◌≤◌, ◌<◌}
+use mathlib.Core.Bool.{true, not}
+use mathlib.Core.List.{List, [], ◌∷◌}
+use Prim.Native.Nat.{ℕ, suc, ◌+◌, ◌*◌, ◌/◌, ◌%◌, ◌≤◌, ◌<◌}
 use native.Mathlib.Numerals.{add-one}
 use native.Mathlib.Omega.{arith}
 use lib.Count.{ones}
@@ -14,7 +14,6 @@ use Rattle.bits.specs.Row.{bits, count, digit}
 use Rattle.bits.specs.Listed.{listed}
 use Rattle.bits.proofs.Tests.{no-yes}
 use Rattle.bits.proofs.Counts.{count_ones, count-le, count-append}
-use Rattle.bits.proofs.Digits.{digit_lt}
 use Rattle.bits.proofs.Rows.{length-bits}
 use Rattle.answer.proofs.Chains.{search-cases}
 use Rattle.subframe.specs.Signed.{in_range}
@@ -23,7 +22,7 @@ use Rattle.block.specs.Check.{outside}
 use Rattle.block.proofs.SideLaws.{get_or-column_in, length-column_in}
 use Rattle.block.proofs.Frames.{row-none, row_next, outside-is}
 use Rattle.levels.specs.Lines.{least, most, both}
-use Rattle.levels.specs.Sheets.{Block, channel_samples, samples_in, at_end, of_one, of_samples, frames_set, of_side, of_sides, line_in, sheet_of}
+use Rattle.levels.specs.Sheets.{Block, channel_samples, at_end, of_one, of_samples, frames_set, sheet_of}
 use Rattle.levels.specs.Calls.{Fit, as_block}
 use Rattle.levels.specs.Inner.{figures_of, block_lines}
 use Rattle.levels.proofs.Stretches.{folded-join, folded-samples, length-channel}

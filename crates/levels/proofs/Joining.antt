@@ -1,25 +1,25 @@
 -- Joining: the empty sheet is the unit, and joining is associative. Assumes nothing.
 use mathlib.Core.Path.{◌≡◌, refl, sym, ap, ◌∙◌}
 use mathlib.Core.Bool.{Bool, true, false}
-use mathlib.Core.List.{List, [], ◌∷◌}
+use mathlib.Core.List.{List}
 use Prim.Native.Nat.{ℕ, zero, suc, ◌+◌, ◌*◌, ◌/◌, ◌%◌, ◌≤◌, ◌<◌}
 use native.Mathlib.Nat.{zero-add, add-zero}
 use native.Mathlib.Omega.{arith}
-use borrow.Author.Tests.{ltb-true, leb-true, eq-eqb, ne_eqb, eqb-true}
-use lib.Dec.{eqb, leb}
+use borrow.Author.Tests.{ltb-true, leb-true, ne_eqb, eqb-true}
+use lib.Dec.{eqb}
 use lib.IntN.{ℤ, pos, negsuc, nat_abs, ◌+ℤ◌, +ℤ_assoc}
 use lib.ListN.{length}
 use Rattle.bits.specs.Pick.{pick}
 use Rattle.bits.specs.Listed.{listed}
 use Rattle.bits.proofs.Lists.{listed-all, length-listed, get_or-listed}
-use Rattle.answer.specs.Answer.{Answer, Answer.accepted}
+use Rattle.answer.specs.Answer.{Answer.accepted}
 use Rattle.answer.proofs.Chains.{met}
 use Rattle.levels.specs.Lines.{least, most, both, joined_line, inside, low_of, high_of, mark_right}
 use Rattle.levels.specs.Lines.{line_sound, line_at, samples_on, sheet_sound, sheet_joined, joined_at, empty_sheet, empty_line}
 use Rattle.levels.specs.Calls.{join_demands, join_answer}
 use Rattle.levels.proofs.Wholes.{least-assoc, most-assoc}
 use Rattle.levels.proofs.Accepted.{sound-at, line-parts, head-parts, head-sound, tail-reach}
-use Rattle.levels.proofs.Places.{length-joined, at_joined, length-empty, at-empty}
+use Rattle.levels.proofs.Places.{at_joined, at-empty}
 
 -- ---- one line
 

@@ -1,20 +1,20 @@
 -- What start and join leave is accepted again. Assumes nothing.
-use mathlib.Core.Path.{◌≡◌, refl, sym, ap, ◌∙◌}
-use mathlib.Core.Bool.{Bool, true, false, not}
-use mathlib.Core.Logic.{◌⊎◌, ⊎_elim}
+use mathlib.Core.Path.{◌≡◌, refl, sym, ap}
+use mathlib.Core.Bool.{true, false, not}
+use mathlib.Core.Logic.{⊎_elim}
 use mathlib.Core.List.{List}
 use Prim.Native.Nat.{ℕ, zero, suc, ◌+◌, ◌*◌, ◌-◌, ◌/◌, ◌%◌, ◌≤◌, ◌<◌}
 use native.Mathlib.Nat.{zero-add, add-zero}
 use native.Mathlib.Omega.{arith}
-use borrow.Author.Tests.{lt-ltb, le-ltb, ltb-true, ltb-false, leb-true, leb-false, le-leb, ne_eqb, eqb-true}
-use lib.Dec.{eqb, leb, ltb}
+use borrow.Author.Tests.{lt-ltb, ltb-true, leb-true, le-leb, ne_eqb}
+use lib.Dec.{eqb}
 use lib.IntN.{ℤ, pos, negsuc, nat_abs, sub_ℕ, ◌+ℤ◌}
 use lib.ListN.{length}
 use lib.Signed.{le_z}
-use Rattle.bits.specs.Pick.{pick, first}
+use Rattle.bits.specs.Pick.{first}
 use Rattle.bits.specs.Listed.{listed}
 use Rattle.bits.proofs.Tests.{order, pick-cases}
-use Rattle.answer.specs.Answer.{Answer, Answer.accepted}
+use Rattle.answer.specs.Answer.{Answer.accepted}
 use Rattle.answer.proofs.Chains.{met}
 use Rattle.levels.specs.Lines.{least, most, both, joined_line, inside, low_of, high_of}
 use Rattle.levels.specs.Lines.{mark_right, line_sound, line_at, samples_on, sheet_sound, sheet_joined, empty_sheet}

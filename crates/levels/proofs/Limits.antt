@@ -3,24 +3,23 @@
 use mathlib.Core.Path.{◌≡◌, refl, sym, ap, ◌∙◌}
 use mathlib.Core.Bool.{Bool, true, false, ◌&&◌}
 use mathlib.Core.List.{List, [], ◌∷◌}
-use Prim.Native.Nat.{ℕ, ◌<◌}
 use native.Mathlib.Omega.{arith}
 use borrow.Author.Tests.{eq-eqb}
 use lib.Dec.{eqb}
 use lib.IntN.{ℤ, pos, nat_abs}
 use lib.ListN.{length}
 use Rattle.bits.specs.Pick.{pick}
-use Rattle.answer.specs.Answer.{Answer, Answer.accepted, Answer.refused, rewritten}
-use Rattle.answer.specs.Demand.{Demand, Demand.asks, Demand.finds_none, provided, ◌&◌}
+use Rattle.answer.specs.Answer.{Answer.accepted, Answer.refused}
+use Rattle.answer.specs.Demand.{Demand.asks, Demand.finds_none, provided, ◌&◌}
 use Rattle.answer.specs.Demand.Stops.{fails, later}
 use Rattle.answer.specs.Residue.{NoResidue, InPlace}
 use Rattle.answer.proofs.Chains.{passing, stopped, passes_on}
-use Rattle.answer.proofs.Residues.{whole, no-residue-in, in_place}
+use Rattle.answer.proofs.Residues.{no-residue-in, in_place}
 use Rattle.block.specs.Side.{side_length}
 use Rattle.block.specs.Check.{outside}
 use Rattle.levels.specs.Lines.{line_at, sheet_sound, sheet_joined, empty_sheet}
 use Rattle.levels.specs.Sheets.{Block, sheet_of}
-use Rattle.levels.specs.Calls.{has_room, Fit, start_answer, start_left, join_answer, join_left, add_answer, add_left}
+use Rattle.levels.specs.Calls.{has_room, start_answer, start_left, join_answer, join_left, add_answer, add_left}
 use Rattle.levels.proofs.Accepting.{FitBlock}
 use Rattle.levels.proofs.Joining.{joining}
 use Rattle.levels.proofs.Adding.{adding, adding-to}

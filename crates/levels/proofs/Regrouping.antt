@@ -1,13 +1,12 @@
 -- Where one way of joining three sheets is accepted, the other is, with the same result. Assumes nothing.
-use mathlib.Core.Path.{◌≡◌, refl, sym, ap, ◌∙◌}
+use mathlib.Core.Path.{◌≡◌, sym, ap, ◌∙◌}
 use mathlib.Core.Bool.{true}
 use mathlib.Core.List.{List}
 use Prim.Native.Nat.{ℕ, ◌+◌, ◌≤◌, ◌<◌, ◌^◌}
 use native.Mathlib.Omega.{arith}
 use borrow.Author.Tests.{eq-eqb, leb-true, le-leb}
 use lib.IntN.{ℤ, nat_abs}
-use lib.ListN.{length}
-use Rattle.answer.specs.Answer.{Answer, Answer.accepted}
+use Rattle.answer.specs.Answer.{Answer.accepted}
 use Rattle.answer.specs.Demand.{AllMet, ◌&◌}
 use Rattle.answer.proofs.Chains.{met, passing}
 use Rattle.levels.specs.Lines.{line_at, samples_on, sheet_sound, sheet_joined}

@@ -1,23 +1,19 @@
 -- The sheet of blocks: that of two stretches on end is the join of theirs; adding one by one gives it. Assumes nothing.
-use mathlib.Core.Path.{◌≡◌, refl, sym, ap, ap₂, ◌∙◌}
+use mathlib.Core.Path.{◌≡◌, refl, sym, ap, ◌∙◌}
 use mathlib.Core.Bool.{Bool, true, false}
 use mathlib.Core.List.{List, [], ◌∷◌, ◌++◌, append_assoc, append-nil}
-use Prim.Native.Nat.{ℕ, zero, suc, ◌+◌, ◌*◌, ◌/◌, ◌%◌, ◌≤◌, ◌<◌}
-use native.Mathlib.Nat.{zero-add, add-zero}
+use Prim.Native.Nat.{ℕ, ◌+◌, ◌*◌, ◌/◌, ◌%◌, ◌≤◌, ◌<◌}
+use native.Mathlib.Nat.{zero-add}
 use native.Mathlib.Omega.{arith}
-use borrow.Author.Tests.{ltb-true, ltb-false, leb-true, lt-ltb, le-ltb, eq-eqb, ne_eqb, eqb-true}
-use lib.Dec.{eqb, leb, ltb}
-use lib.IntN.{ℤ, pos, negsuc, nat_abs, ◌+ℤ◌}
+use borrow.Author.Tests.{ltb-false, ne_eqb}
+use lib.Dec.{ltb}
+use lib.IntN.{ℤ, pos, nat_abs, ◌+ℤ◌}
 use lib.ListN.{length, length-append, get_or}
-use Rattle.bits.specs.Pick.{pick}
-use Rattle.bits.specs.Listed.{listed}
-use Rattle.bits.proofs.Lists.{listed-all, length-listed, get_or-listed}
-use Rattle.bits.proofs.Tests.{pick-cases}
-use Rattle.answer.specs.Answer.{Answer, Answer.accepted}
-use Rattle.levels.specs.Lines.{both, joined_line, line_at, samples_on, sheet_joined, joined_at, empty_sheet, empty_line}
+use Rattle.bits.proofs.Lists.{length-listed}
+use Rattle.levels.specs.Lines.{both, joined_line, samples_on, sheet_joined, joined_at, empty_sheet, empty_line}
 use Rattle.levels.specs.Sheets.{Block, channel_samples, samples_in, of_one, of_samples, of_sides, line_in, sheet_of}
 use Rattle.levels.proofs.Joining.{both-assoc, none_left, none_right, some-both, listed_same}
-use Rattle.levels.proofs.Places.{length-joined, at_joined, length-empty, at-empty, length-sheet, at-sheet}
+use Rattle.levels.proofs.Places.{at-sheet}
 
 -- ---- folds of two lists on end
 

@@ -1,4 +1,6 @@
 // The level sheet: two channels of ten numbers, started, added to and joined.
+#![tactic(auto)]
+
 ghost use Rattle.std.specs.Prelude.{◌≡◌, ◌&&◌, eqb};
 ghost use Rattle.answer.specs.Answer.{verdict};
 ghost use Rattle.answer.specs.Said.{verdict_said};

@@ -1,14 +1,13 @@
 -- What the writer accepts the reader accepts: of the buffer that the writer leaves, whatever room it had, the reader
 -- gives the same words, active count and commands in their order; one proof for both channel counts. Assumes nothing.
 use mathlib.Core.Path.{◌≡◌, refl, sym, ap, ap₂, subst, ◌∙◌}
-use mathlib.Core.Bool.{true}
 use mathlib.Core.List.{List, [], ◌∷◌, ◌++◌, map, append_assoc}
-use Prim.Native.Nat.{ℕ, zero, suc, ◌+◌, ◌/◌, ◌%◌, ◌^◌, ◌≤◌, ◌<◌, min}
+use Prim.Native.Nat.{ℕ, zero, suc, ◌+◌, ◌/◌, ◌^◌, ◌<◌, min}
 use native.Mathlib.Numerals.{add-one}
 use native.Mathlib.Omega.{arith}
 use lib.ListN.{length, get_or, take, drop, drop_of_length-le, length-map, get_or-map}
 use lib.Seq.{drop-cons, take_at, ext_get_or}
-use Rattle.bits.specs.Row.{Row, odd, bit, count, big, Below}
+use Rattle.bits.specs.Row.{Row, odd, count, big, Below}
 use Rattle.bits.specs.Pack.{chain, octets}
 use Rattle.bits.specs.Cross.{across}
 use Rattle.bits.proofs.Digits.{digit-odd}
@@ -16,7 +15,6 @@ use Rattle.bits.proofs.Packing.{length-pack}
 use Rattle.answer.specs.Answer.{Answer, Answer.accepted, mapped, verdict, after, rewritten}
 use Rattle.answer.proofs.Chains.{value_of}
 use Rattle.answer.proofs.Residues.{whole}
-use Rattle.subframe.specs.Body.{even_body}
 use Rattle.line.specs.Nrzi.{levels}
 use Rattle.madi_code.specs.Frame.{boundary, numbered, synced}
 use Rattle.madi_code.specs.Groups.{command_row}

@@ -1,5 +1,7 @@
 // MADI's channel counts and five-bit groups, and a channel's word as the 40 bits that send it.
 // Reader and writer lay a table of groups out once and lend it for all channels of a frame.
+#![tactic(auto)]
+
 ghost use Rattle.std.specs.Prelude.{◌≡◌, ◌%◌, ◌^◌, ◌<◌, take, get_or};
 ghost use Rattle.bits.specs.Row.{big_bits, big};
 ghost use Rattle.madi_code.specs.Frame.{counted, synced};

@@ -1,5 +1,4 @@
 -- Patching leaves no residue, neither in the frame out nor in the verdicts, each as long as the channel count. Assumes nothing.
-use mathlib.Core.List.{List}
 use Prim.Native.Nat.{ℕ}
 use lib.ListN.{length}
 use Rattle.answer.specs.Answer.{after}

@@ -1,5 +1,7 @@
 // The patch between tenants: MADI slots of one frame into those of another, each only within one tenant. `ins` and
 // `outs` own the input and the output slots.
+#![tactic(auto)]
+
 ghost use Rattle.std.specs.Prelude.{◌≡◌, [], ◌∷◌, length};
 ghost use Rattle.bits.specs.Listed.{listed};
 ghost use Rattle.answer.specs.Answer.{verdict};

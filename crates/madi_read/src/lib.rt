@@ -1,4 +1,6 @@
 // The MADI reader: a frame, piece by piece.
+#![tactic(auto)]
+
 ghost use Rattle.std.specs.Prelude.{◌≡◌, ◌&&◌, ◌+◌, ◌*◌, ◌/◌, ◌≤◌, eqb, leb, length};
 ghost use Rattle.bits.specs.Row.{bit};
 ghost use Rattle.answer.specs.Answer.{mapped, after};

@@ -1,9 +1,12 @@
 // Reads records from standard input and writes the figures of their packets to standard output: the rule and the text
 // are the library's, and this only reads, calls it and writes. It holds one record at most.
+#![tactic(auto)]
+
 ghost use Rattle.std.specs.Prelude.{◌≡◌, length};
 ghost use Rattle.io.specs.Counts.{IsPrefixLen};
 
 use replay::Next;
+use std::io::{Read, Stdin};
 
 // Zeros for the longest record, and for the text. A goal then has only this length to say of the buffer, and not the
 // zeros.
@@ -27,37 +30,38 @@ fn tell_failure() {
 
 // Reads until buf is full, the input ends or a read fails, and answers how many octets it put at the start of buf; with
 // no call for none. A failure is told, and is then as an end of the input.
-fn read(buf: &mut [u8]) -> usize
+fn read(mut input: Stdin, buf: &mut [u8]) -> usize
     ensures { IsPrefixLen result buf.new }
 {
     let mut done = 0;
     while done < buf.len() {
-        let rest = &mut buf[done..];
-        let got = libc::read(0, rest);
-        if got < 0 {
-            tell_failure();
-            return done;
+        match input.read(&mut buf[done..]) {
+            Ok(more) => {
+                if more == 0 {
+                    return done;
+                }
+                done += more;
+            }
+            Err(_) => {
+                tell_failure();
+                return done;
+            }
         }
-        let more = io::count(got, rest);
-        if more == 0 {
-            return done;
-        }
-        done += more;
     }
     done
 }
 
 // Reads record by record into the figures, and answers how it ended. At 2^64 - 1 records it ends as at the end of the
 // input: the count cannot grow for ever.
-fn run(figures: &mut [u32; 110]) -> Next {
+fn run(input: Stdin, figures: &mut [u32; 110]) -> Next {
     let mut head = [0u8; 4];
     let mut body = no_octets();
     let mut left: u64 = 18_446_744_073_709_551_615;
     while 0 < left {
         left -= 1;
-        let got = read(&mut head);
+        let got = read(input, &mut head);
         let size = records::body_size(&head[..got]);
-        let had = read(&mut body[..size]);
+        let had = read(input, &mut body[..size]);
         let next = replay::step(figures, &head[..got], &body[..had]);
         let Next::Going = next else {
             return next;
@@ -68,14 +72,14 @@ fn run(figures: &mut [u32; 110]) -> Next {
 
 // The first line is written before anything is read, and a write that fails ends the program: nothing is read for
 // figures that nobody gets.
-fn main() {
+fn main(rt: HostRuntime) {
     let mut out = no_octets();
     let from = report::begin_replay(&mut out);
     if !io::write_all(1, &out[from..]) {
         return;
     }
     let mut figures = no_figures();
-    let next = run(&mut figures);
+    let next = run(rt.stdin(), &mut figures);
     let from = report::end_replay(&figures, next, &mut out);
     io::write_all(1, &out[from..]);
 }

@@ -1,5 +1,7 @@
 // What a record is: its header, how many octets are to be read after it and what turn a reading takes then; its
 // version and kind; and what the reader of its kind makes of it.
+#![tactic(auto)]
+
 ghost use Rattle.std.specs.Prelude.{◌≡◌, ◌+◌, ◌*◌, ◌≤◌, ◌<◌, length};
 ghost use Rattle.answer.specs.Answer.{mapped};
 ghost use Rattle.answer.specs.Said.{number_said};

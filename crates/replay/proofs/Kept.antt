@@ -156,6 +156,7 @@ full_at sheet (r ∷ rs) e =
 full-of : (octets sheet : List ℕ) → Stops (replay_demands octets sheet) 23 0
     → (length sheet ≡ 110) × (marks_sound sheet ≡ true) × (all_counted sheet (records_of octets) ≡ false)
 full-of octets sheet (later m (later n (fails f))) = (eqb-true (length sheet) 110 m, n, f)
+full-of octets sheet (later m (later n (later _ x20))) = elim x20 [ ]
 
 pub full-hands-back : (octets sheet : List ℕ) → replay_answer octets sheet ≡ refused 23 0
     → FullAt sheet (records_of octets) × (figures_handed octets sheet ≡ figures_after sheet (records_counted sheet (records_of octets)))

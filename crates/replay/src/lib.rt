@@ -1,5 +1,7 @@
 // The replay of a night's packets: figures by group over a file of records, one record at a time, so that a file and a
 // stream go by the same step.
+#![tactic(auto)]
+
 ghost use Rattle.std.specs.Prelude.{◌≡◌, min, length, replicate};
 ghost use Rattle.replay.specs.Replay.{taken_of, replay_figures, replay_end, stop_number, replay_told, sheet_after, next_of, sheet_stepped};
 ghost use Rattle.replay.specs.Inner.{goes, full};

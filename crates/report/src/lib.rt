@@ -1,5 +1,7 @@
 // The report on a stream of records, one record at a time: the program over it only reads, calls this and writes.
 // Each text is made at the end of a lent buffer, and the function that makes it answers where it starts.
+#![tactic(auto)]
+
 ghost use Rattle.std.specs.Prelude.{◌≡◌, ◌++◌, ◌+◌, ◌≤◌, ◌<◌, length};
 ghost use Rattle.answer.specs.Answer.{Answer.refused};
 ghost use Rattle.records.specs.Record.{outcome_said, record_answer};

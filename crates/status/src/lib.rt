@@ -1,5 +1,7 @@
 // What bytes 0 to 2 of channel status mean (BS.647-3, part 3, 3.3.1 to 3.3.3). A reserved state is reported with its
 // bits, and never refused.
+#![tactic(auto)]
+
 ghost use Rattle.std.specs.Prelude.{◌≡◌};
 ghost use Rattle.status.specs.Meaning.{described_by, meaning_of};
 ghost use Rattle.status.specs.Numbers.{numbers_by, consumer_numbers, numbers_of};

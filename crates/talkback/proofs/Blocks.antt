@@ -1,12 +1,10 @@
 -- A whole block: its elements; joined and separated, separated and joined. Assumes nothing.
-use mathlib.Core.Path.{◌≡◌, refl, sym, ap, ap₂, ◌∙◌}
-use mathlib.Core.Bool.{true}
+use mathlib.Core.Path.{◌≡◌, sym, ap, ap₂, ◌∙◌}
 use mathlib.Core.List.{List}
 use Prim.Native.Nat.{ℕ, ◌+◌, ◌*◌, ◌/◌, ◌%◌, ◌^◌, ◌<◌}
 use native.Mathlib.Omega.{arith}
 use lib.IntN.{ℤ, pos}
 use lib.ListN.{length, get_or}
-use Rattle.bits.specs.Listed.{listed}
 use Rattle.bits.proofs.Lists.{length-listed, get_or-listed, listed-all}
 use Rattle.subframe.specs.Signed.{in_range, signed_of}
 use Rattle.talkback.specs.Talkback.{auxiliary, main, sample_with, part_of, voice_with, subframe_with, voice_in, part_in, with_voice, program_of, voice_of}

@@ -3,7 +3,7 @@
 use mathlib.Core.Path.{◌≡◌, refl, sym, ap, ap₂, ◌∙◌}
 use mathlib.Core.Bool.{Bool, true, false, not, ◌&&◌, ◌||◌}
 use mathlib.Core.List.{List}
-use Prim.Native.Nat.{ℕ, zero, suc, ◌+◌, ◌-◌, ◌%◌, ◌^◌, ◌≤◌, ◌<◌}
+use Prim.Native.Nat.{ℕ, zero, suc, ◌+◌, ◌-◌, ◌^◌, ◌≤◌, ◌<◌}
 use native.Mathlib.Omega.{arith}
 use borrow.Author.Tests.{eq-eqb, ne_eqb, eqb-true, lt-ltb, le-ltb, not-false}
 use lib.Dec.{eqb, ltb}
@@ -11,13 +11,13 @@ use lib.IntN.{ℤ, pos}
 use lib.ListN.{length, get_or}
 use lib.Signed.{mag}
 use Rattle.answer.specs.Answer.{Answer.accepted}
-use Rattle.answer.specs.Demand.{AllMet, ◌&◌}
+use Rattle.answer.specs.Demand.{◌&◌}
 use Rattle.answer.proofs.Chains.{met, passing}
 use Rattle.subframe.specs.Signed.{in_range}
 use Rattle.block.specs.Side.{side_length}
 use Rattle.block.specs.Check.{outside}
 use Rattle.block.proofs.CheckLaws.{outside-range}
-use Rattle.talkback.specs.Talkback.{auxiliary, with_voice, undeclared, unfit, voice_outside, use_demands, voice_join_demands, separate_demands, voice_join_answer, separate_answer}
+use Rattle.talkback.specs.Talkback.{auxiliary, with_voice, undeclared, unfit, voice_outside, voice_join_demands, separate_demands, voice_join_answer, separate_answer}
 use Rattle.talkback.specs.Inner.{unfitting, Programs, AllIn}
 
 -- ---- one search for each kind

@@ -3,11 +3,11 @@
 use mathlib.Core.Path.{◌≡◌, refl, sym, ap, ap₂, ◌∙◌}
 use mathlib.Core.Bool.{true}
 use mathlib.Core.List.{List}
-use Prim.Native.Nat.{ℕ, ◌+◌, ◌*◌, ◌/◌, ◌%◌, ◌^◌, ◌<◌}
+use Prim.Native.Nat.{ℕ, ◌*◌, ◌/◌, ◌%◌, ◌^◌, ◌<◌}
 use native.Mathlib.Omega.{arith}
 use lib.IntN.{ℤ, pos, ◌*ℤ◌}
 use lib.ListN.{length, get_or}
-use Rattle.answer.specs.Answer.{Answer, Answer.accepted, verdict, after, rewritten}
+use Rattle.answer.specs.Answer.{Answer.accepted, verdict, after, rewritten}
 use Rattle.answer.proofs.Residues.{whole}
 use Rattle.subframe.specs.Signed.{in_range, code_of}
 use Rattle.subframe.specs.Body.{body_of}
@@ -17,7 +17,7 @@ use Rattle.block.specs.Block.{side_at, subframe_body}
 use Rattle.block.proofs.BlockLaws.{body-in, side-digit}
 use Rattle.talkback.specs.Talkback.{auxiliary, main, with_voice, program_of, voice_of, voice_join_answer, separate_answer}
 use Rattle.talkback.proofs.Blocks.{length-with, length-program, length-voice, joined_in, joined-main, program-back, voice-back, separated-programs, separated-voice, joined_back}
-use Rattle.talkback.proofs.Demands.{Joins, joins, Separates, separates, separating, joining}
+use Rattle.talkback.proofs.Demands.{Joins, joins, separates, separating, joining}
 
 -- ---- what joining accepts
 

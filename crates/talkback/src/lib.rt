@@ -1,5 +1,7 @@
 // Talkback: a voice channel in slots 4 to 7 of a block whose status declares it, joined with the program in slots 8 to
 // 27, and separated from it.
+#![tactic(auto)]
+
 ghost use Rattle.std.specs.Prelude.{◌≡◌, true, ◌+◌, ◌*◌, ◌/◌, ◌%◌, ◌^◌, ◌<◌, ◌≤◌, pos, length, get_or};
 ghost use Rattle.std.specs.Int.Signed.{mag};
 ghost use Rattle.bits.specs.Pick.{first};

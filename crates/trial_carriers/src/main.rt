@@ -1,6 +1,7 @@
 // What document 01 lists "By test", published vectors, and carriers that are changed in one place, each place in its
 // turn. The file `stdout` is what tests/second/trial_carriers.c prints over the second program. Cases at random are
 // the comparing program's (tests/compare).
+#![tactic(auto)]
 
 mod blocks;
 mod frames;

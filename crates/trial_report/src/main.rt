@@ -1,6 +1,8 @@
 // Reports on whole inputs, each walked from its start through the library, as the report program reads: what one
 // stream cannot hold, since each of these ends its reading. The file `stdout` is what tests/second/trial_report.c
 // prints.
+#![tactic(auto)]
+
 ghost use Rattle.std.specs.Prelude.{◌≤◌};
 
 fn least(a: usize, b: usize) -> usize

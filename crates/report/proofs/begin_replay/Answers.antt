@@ -1,0 +1,7 @@
+-- `report::begin_replay` meets its contract. Assumes nothing.
+use Rattle.report.proofs.TextLaws.{put-start, put_all}
+use borrow.Author.Rules.{rules}
+use Rattle.report.proofs.begin_replay.Goals as goal
+
+pub returns : goal.returns
+returns c = record { value = put-start (search rules) c.put.ensures; out_after = put_all (search rules) c.put.ensures }

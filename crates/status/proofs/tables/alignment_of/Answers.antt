@@ -1,0 +1,31 @@
+-- `status::tables::alignment_of` meets its contract: the rows of its table, and the rest.
+-- Assumes nothing.
+use borrow.Author.Tests.{ne_eqb}
+use Rattle.status.specs.Meaning.{in_table, alignment_of}
+use Rattle.status.proofs.tables.alignment_of.Goals as goal
+
+pub returns-in-0 : goal.returns-in-0
+unfolding in_table alignment_of
+returns-in-0 c = rw c.in-0.is
+
+pub returns-in-2 : goal.returns-in-2
+unfolding in_table alignment_of
+returns-in-2 c = rw c.in-2.is
+
+pub returns-in-1 : goal.returns-in-1
+unfolding in_table alignment_of
+returns-in-1 c = rw c.in-1.is
+
+pub returns-in-3 : goal.returns-in-3
+unfolding in_table alignment_of
+returns-in-3 c = rw c.in-3.is
+
+pub returns-in_default : goal.returns-in_default
+unfolding in_table alignment_of
+returns-in_default c =
+    simp (
+      ne_eqb _ _ c.in_default.in_default-own.rest.0.0.0.1,
+      ne_eqb _ _ c.in_default.in_default-own.rest.0.0.1,
+      ne_eqb _ _ c.in_default.in_default-own.rest.0.1,
+      ne_eqb _ _ c.in_default.in_default-own.rest.1,
+    )

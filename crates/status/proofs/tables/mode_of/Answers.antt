@@ -1,0 +1,66 @@
+-- `status::tables::mode_of` meets its contract: the rows of its table, and the rest.
+-- Assumes nothing.
+use borrow.Author.Tests.{ne_eqb}
+use Rattle.status.specs.Meaning.{in_table, mode_of}
+use Rattle.status.proofs.tables.mode_of.Goals as goal
+
+pub returns-in-0 : goal.returns-in-0
+unfolding in_table mode_of
+returns-in-0 c = rw c.in-0.is
+
+pub returns-in-8 : goal.returns-in-8
+unfolding in_table mode_of
+returns-in-8 c = rw c.in-8.is
+
+pub returns-in-4 : goal.returns-in-4
+unfolding in_table mode_of
+returns-in-4 c = rw c.in-4.is
+
+pub returns-in-12 : goal.returns-in-12
+unfolding in_table mode_of
+returns-in-12 c = rw c.in-12.is
+
+pub returns-in-2 : goal.returns-in-2
+unfolding in_table mode_of
+returns-in-2 c = rw c.in-2.is
+
+pub returns-in-10 : goal.returns-in-10
+unfolding in_table mode_of
+returns-in-10 c = rw c.in-10.is
+
+pub returns-in-6 : goal.returns-in-6
+unfolding in_table mode_of
+returns-in-6 c = rw c.in-6.is
+
+pub returns-in-14 : goal.returns-in-14
+unfolding in_table mode_of
+returns-in-14 c = rw c.in-14.is
+
+pub returns-in-1 : goal.returns-in-1
+unfolding in_table mode_of
+returns-in-1 c = rw c.in-1.is
+
+pub returns-in-9 : goal.returns-in-9
+unfolding in_table mode_of
+returns-in-9 c = rw c.in-9.is
+
+pub returns-in-15 : goal.returns-in-15
+unfolding in_table mode_of
+returns-in-15 c = rw c.in-15.is
+
+pub returns-in_default : goal.returns-in_default
+unfolding in_table mode_of
+returns-in_default c =
+    simp (
+      ne_eqb _ _ c.in_default.in_default-own.rest.0.0.0.0.0.0.0.0.0.0.1,
+      ne_eqb _ _ c.in_default.in_default-own.rest.0.0.0.0.0.0.0.0.0.1,
+      ne_eqb _ _ c.in_default.in_default-own.rest.0.0.0.0.0.0.0.0.1,
+      ne_eqb _ _ c.in_default.in_default-own.rest.0.0.0.0.0.0.0.1,
+      ne_eqb _ _ c.in_default.in_default-own.rest.0.0.0.0.0.0.1,
+      ne_eqb _ _ c.in_default.in_default-own.rest.0.0.0.0.0.1,
+      ne_eqb _ _ c.in_default.in_default-own.rest.0.0.0.0.1,
+      ne_eqb _ _ c.in_default.in_default-own.rest.0.0.0.1,
+      ne_eqb _ _ c.in_default.in_default-own.rest.0.0.1,
+      ne_eqb _ _ c.in_default.in_default-own.rest.0.1,
+      ne_eqb _ _ c.in_default.in_default-own.rest.1,
+    )
