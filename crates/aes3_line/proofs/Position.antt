@@ -12,7 +12,6 @@ use Rattle.bits.specs.Window.{part}
 use Rattle.bits.specs.Pack.{symbols}
 use Rattle.bits.proofs.Windows.{part_same, part-all}
 use Rattle.bits.proofs.Packing.{highest, chain-append, length-chain}
-use Rattle.answer.specs.Answer.{Answer}
 use Rattle.line.specs.Biphase.{left}
 use Rattle.aes3_line.specs.Subframe.{subframe_read}
 use Rattle.aes3_line.specs.Line.{leading, bodies_from, level_before, bodies_on}

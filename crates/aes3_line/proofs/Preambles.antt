@@ -2,13 +2,13 @@
 use mathlib.Core.Path.{◌≡◌, refl, sym, ap, ◌∙◌}
 use mathlib.Core.Bool.{Bool, true, false, not}
 use mathlib.Core.List.{◌++◌, append_assoc, map}
-use Prim.Native.Nat.{ℕ, ◌/◌, ◌%◌, ◌^◌, ◌<◌}
+use Prim.Native.Nat.{ℕ, ◌%◌, ◌<◌}
 use native.Mathlib.Omega.{arith}
 use borrow.Author.Tests.{ne_eqb}
 use lib.Dec.{eqb}
 use lib.ListN.{length, get_or, length-append}
 use Rattle.bits.specs.Pick.{pick}
-use Rattle.bits.specs.Row.{Row, odd, bits, big_bits, big}
+use Rattle.bits.specs.Row.{Row, odd, big_bits, big}
 use Rattle.bits.proofs.Tests.{pick-cases}
 use Rattle.bits.proofs.Rows.{length-bits, big_lt, big_bits-big}
 use Rattle.line.specs.Preamble.{preamble_x, preamble_y, preamble_z, after_level}

@@ -1,5 +1,5 @@
 -- What the searches over words say, in the terms of a packet's demands. Assumes nothing.
-use mathlib.Core.Path.{◌≡◌, refl, sym, ap, ◌∙◌}
+use mathlib.Core.Path.{◌≡◌, sym, ap, ◌∙◌}
 use mathlib.Core.Bool.{Bool, true, false, not}
 use mathlib.Core.List.{List, ◌∷◌}
 use Prim.Native.Nat.{ℕ, ◌^◌, ◌+◌, ◌-◌, ◌≤◌, ◌<◌}
@@ -8,7 +8,7 @@ use borrow.Author.Tests.{le-ltb, ltb-false, not-false}
 use lib.ListN.{length, get_or, take, drop, length-drop}
 use lib.Seq.{length-take-le, get_or-take, get_or-drop}
 use Rattle.bits.specs.Pick.{first}
-use Rattle.answer.specs.Demand.{Demand, Demand.finds_none, Met, Stops}
+use Rattle.answer.specs.Demand.{Demand, Demand.finds_none, Stops}
 use Rattle.answer.specs.Demand.Stops.{found}
 use Rattle.answer.proofs.Chains.{search-cases, place_found, none_found}
 use Rattle.anc.specs.Word.{right_by, parities, wide_at, wrong_at}

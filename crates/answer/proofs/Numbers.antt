@@ -7,7 +7,7 @@ use borrow.Author.Tests.{ltb-true}
 use lib.Dec.{ltb}
 use Rattle.bits.proofs.Tests.{both_true}
 use Rattle.answer.specs.Answer.{Answer.accepted, Answer.refused}
-use Rattle.answer.specs.Demand.{Demand, Demand.asks, Demand.finds_none, provided, Stops}
+use Rattle.answer.specs.Demand.{Demand, provided, Stops}
 use Rattle.answer.specs.Demand.Stops.{fails, found, later}
 use Rattle.answer.proofs.Chains.{stops}
 

@@ -5,7 +5,6 @@ use Rattle.status.specs.declared.Auxiliary.{Auxiliary}
 use Rattle.status.specs.declared.Auxiliary.TheVariants as auxiliary
 use Rattle.status.specs.declared.WordLength.{WordLength}
 use Rattle.status.specs.declared.WordLength.TheVariants as word
-use Rattle.status.specs.declared.Description.{Description}
 use Rattle.status.specs.declared.Audio.TheVariants.{LinearPcm, OtherPurpose}
 use Rattle.status.specs.declared.Use.{Use}
 use Rattle.status.specs.declared.Use.TheVariants.{Consumer, Professional}

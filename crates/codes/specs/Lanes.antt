@@ -3,7 +3,7 @@
 use Rattle.std.specs.Prelude.{ℕ, zero, suc, ◌+◌, Bool, true, false, not, List, map, eqb}
 use Rattle.bits.specs.Row.{digit, little}
 use Rattle.bits.specs.Cross.{across, crossed}
-use Rattle.answer.specs.Answer.{Answer, Answer.accepted, Answer.refused}
+use Rattle.answer.specs.Answer.{Answer}
 use Rattle.codes.specs.Lane.{check_places, satisfies, repaired}
 
 unfoldable pub lane_of : ℕ → List ℕ → ℕ

@@ -1,7 +1,7 @@
 -- Sequences of calls on one table, and what is granted in them, by the calls and their answers alone. Assumes nothing.
 use Rattle.std.specs.Prelude.{ℕ, ◌+◌, Bool, true, false, ◌&&◌, List, [], ◌∷◌, eqb, replicate}
 use Rattle.bits.specs.Pick.{pick}
-use Rattle.answer.specs.Answer.{Answer, Answer.accepted, Answer.refused, mapped}
+use Rattle.answer.specs.Answer.{Answer, mapped}
 use Rattle.leases.specs.Table.{slots_of}
 use Rattle.leases.specs.Calls.{ask_answer, ask_table, back_answer, back_table, leased_count, close_answer, close_table}
 

@@ -1,6 +1,6 @@
 -- Start, add and join: the demands in their order, and what is then in the sheet. Assumes nothing.
 use Rattle.std.specs.Prelude.{◌≡◌, ℕ, ◌+◌, ◌<◌, ◌^◌, Bool, false, List, [], ◌∷◌, eqb, leb, ℤ, nat_abs, length}
-use Rattle.answer.specs.Answer.{Answer, Answer.accepted, Answer.refused, rewritten}
+use Rattle.answer.specs.Answer.{Answer, Answer.accepted, rewritten}
 use Rattle.answer.specs.Demand.{Demand, Demand.asks, Demand.finds_none, provided}
 use Rattle.block.specs.Side.{side_length}
 use Rattle.block.specs.Check.{outside}

@@ -1,14 +1,14 @@
 -- Eight groups by a table that is lent are the groups of a channel, sent and received. Assumes nothing.
 use mathlib.Core.Path.{◌≡◌, refl, sym, ap, ◌∙◌}
 use mathlib.Core.List.{List}
-use Prim.Native.Nat.{ℕ, ◌+◌, ◌*◌, ◌-◌, ◌/◌, ◌%◌, ◌^◌, ◌≤◌, ◌<◌}
+use Prim.Native.Nat.{ℕ, ◌+◌, ◌*◌, ◌-◌, ◌/◌, ◌%◌, ◌^◌, ◌<◌}
 use native.Mathlib.Nat.{div-one}
 use native.Mathlib.Omega.{arith}
 use borrow.Author.Tests.{ltb-true, lt-ltb}
 use lib.Dec.{ltb}
 use lib.Pow.{shr-shr}
 use lib.ListN.{length, get_or}
-use Rattle.bits.specs.Row.{Row, bits, big_bits, big}
+use Rattle.bits.specs.Row.{bits, big_bits, big}
 use Rattle.bits.specs.Window.{part, window}
 use Rattle.bits.proofs.Tests.{pick-cases}
 use Rattle.madi_code.specs.Groups.{group_code, group_of}

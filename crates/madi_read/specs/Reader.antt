@@ -1,5 +1,5 @@
 -- What reading a MADI frame means: from the bits that a line carries, boundary by boundary. Assumes nothing.
-use Rattle.std.specs.Prelude.{ℕ, zero, suc, ◌+◌, ◌*◌, ◌-◌, ◌/◌, ◌%◌, Bool, ◌&&◌, List, [], ◌∷◌, ◌++◌, eqb, ltb, leb, length, replicate}
+use Rattle.std.specs.Prelude.{ℕ, zero, suc, ◌+◌, ◌*◌, ◌-◌, ◌/◌, Bool, ◌&&◌, List, [], ◌∷◌, ◌++◌, eqb, ltb, leb, length, replicate}
 use Rattle.bits.specs.Pick.{pick}
 use Rattle.bits.specs.Row.{Row, odd, bit}
 use Rattle.bits.specs.Window.{part, window}

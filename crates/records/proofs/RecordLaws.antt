@@ -11,7 +11,7 @@ use Rattle.answer.specs.Answer.{Answer.accepted, Answer.refused}
 use Rattle.answer.specs.Demand.{◌&◌}
 use Rattle.answer.specs.Demand.Stops.{fails}
 use Rattle.answer.proofs.Chains.{passing, stopped, met, stops}
-use Rattle.records.specs.Record.{big_endian, words_filled, packet_demands, packet_record, kind_demands, kind_of, by_kind, record_answer}
+use Rattle.records.specs.Record.{big_endian, words_filled, packet_record, kind_demands, kind_of, by_kind, record_answer}
 
 -- ---- words of two octets
 

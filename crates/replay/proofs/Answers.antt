@@ -13,7 +13,7 @@ use Rattle.answer.specs.Demand.{◌&◌}
 use Rattle.answer.specs.Demand.Stops.{fails, later}
 use Rattle.answer.proofs.Residues.{shows-refusal, shows-acceptance}
 use Rattle.records.specs.Head.{size_of}
-use Rattle.replay.specs.File.{records_of, octets_in, stop_at, file_stop}
+use Rattle.replay.specs.File.{records_of, stop_at, file_stop}
 use Rattle.replay.specs.Sheet.{marks_sound}
 use Rattle.replay.specs.Replay.{all_counted, taken_of, replay_figures, replay_end, stop_number, replay_demands, replay_answer, stop_told, figures_told, sheet_after, taken_told, figures_handed, told_beside, replay_told}
 use Rattle.replay.specs.Inner.{full}

@@ -1,23 +1,18 @@
 -- A file cut at a record's boundary and gone on from the saved figures gives the same sheet. Assumes nothing.
 use mathlib.Core.Path.{◌≡◌, refl, sym, ap, ap₂, subst, ◌∙◌}
-use mathlib.Core.Bool.{Bool, true, false}
-use mathlib.Core.List.{List, [], ◌∷◌, ◌++◌, append_assoc}
-use Prim.Native.Nat.{ℕ, zero, suc, ◌+◌, ◌-◌, ◌≤◌, ◌<◌}
+use mathlib.Core.Bool.{true, false}
+use mathlib.Core.List.{List, [], ◌∷◌, ◌++◌}
+use Prim.Native.Nat.{ℕ, zero, suc, ◌+◌, ◌≤◌}
 use native.Mathlib.Nat.{zero-add}
 use native.Mathlib.Omega.{arith}
-use borrow.Author.Tests.{eqb-true, eqb-false}
-use lib.Dec.{eqb, ltb}
-use lib.ListN.{length, take, drop, length-drop, length-append, take-append-drop}
-use lib.Seq.{take-append-le, drop-append-le, drop-drop}
-use Rattle.bits.specs.Pick.{pick}
-use Rattle.bits.proofs.Tests.{pick-cases, no-yes}
+use lib.ListN.{length, take, drop, length-drop, length-append}
+use lib.Seq.{take-append-le, drop-append-le}
+use Rattle.bits.proofs.Tests.{no-yes}
 use Rattle.records.specs.Head.{size_of}
 use Rattle.records.proofs.HeadLaws.{size-front}
-use Rattle.replay.specs.File.{whole, record_first, rest_of, records_of, octets_in, stop_at, file_stop}
-use Rattle.replay.specs.Replay.{with_record, room_for, figures_after, records_counted, all_counted, taken_of, replay_figures, replay_end}
-use Rattle.replay.specs.declared.Next.{Next}
-use Rattle.replay.specs.declared.Next.TheVariants.{End}
-use Rattle.replay.proofs.Files.{test-cases, Whole, whole_is, is_whole, first-long, rest-shorter, records-none, records-one, stop-here, stop-later}
+use Rattle.replay.specs.File.{whole, record_first, rest_of, records_of, octets_in, file_stop}
+use Rattle.replay.specs.Replay.{with_record, room_for, figures_after, records_counted, all_counted, taken_of, replay_figures}
+use Rattle.replay.proofs.Files.{test-cases, Whole, whole_is, is_whole, first-long, rest-shorter, records-none, records-one, stop-later}
 
 -- ---- a file of whole records before another
 

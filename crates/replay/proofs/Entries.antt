@@ -2,7 +2,7 @@
 -- nothing.
 use mathlib.Core.Path.{◌≡◌, refl, sym, ap, ap₂, ◌∙◌}
 use mathlib.Core.List.{List}
-use Prim.Native.Nat.{ℕ, ◌-◌, ◌*◌, ◌≤◌, ◌<◌}
+use Prim.Native.Nat.{ℕ, ◌-◌, ◌≤◌, ◌<◌}
 use native.Mathlib.Omega.{arith}
 use borrow.Author.Tests.{eq-eqb, ne_eqb}
 use lib.Dec.{eqb}
@@ -25,8 +25,7 @@ use Rattle.records.specs.Record.{big_endian, words_filled, kind_of}
 use Rattle.records.proofs.RecordLaws.{filled-words, to_the_end}
 use Rattle.replay.specs.Packet.{data_heard, mended, data_words, data_entry, control_heard, control_words, control_entry, entry_for, entry_of}
 use Rattle.replay.specs.Inner.{ProperEntry}
-use Rattle.replay.specs.declared.Entry.{Entry}
-use Rattle.replay.specs.declared.Entry.TheVariants.{Passed, Data, Control as Controls, Refused}
+use Rattle.replay.specs.declared.Entry.TheVariants.{Passed, Refused}
 
 -- ---- a data packet
 

@@ -1,12 +1,11 @@
 -- What a replay leaves: figures of 32 bits, a sheet that is accepted again; on a refusal the sheet as it was, and beside
 -- 23 the figures before the record. Going on from a saved sheet. Assumes nothing.
 use mathlib.Core.Path.{◌≡◌, refl, sym, ap, ap₂, subst, ◌∙◌}
-use mathlib.Core.Logic.{◌≢◌}
 use mathlib.Core.Bool.{Bool, true, false, ◌&&◌}
 use mathlib.Core.List.{List, [], ◌∷◌, ◌++◌}
-use Prim.Native.Nat.{ℕ, zero, suc, ◌+◌, ◌-◌, ◌*◌, ◌^◌, ◌≤◌, ◌<◌}
+use Prim.Native.Nat.{ℕ, zero, suc, ◌+◌, ◌^◌, ◌≤◌, ◌<◌}
 use native.Mathlib.Omega.{arith}
-use borrow.Author.Tests.{eq-eqb, ne_eqb, eqb-true, eqb-false, le-leb}
+use borrow.Author.Tests.{eq-eqb, eqb-true, le-leb}
 use lib.Dec.{eqb, ltb, leb}
 use lib.ListN.{length, get_or, drop, length-drop}
 use Rattle.bits.specs.Pick.{pick}
@@ -22,15 +21,14 @@ use Rattle.answer.proofs.Residues.{in_place}
 use Rattle.records.specs.Head.{size_of}
 use Rattle.replay.specs.File.{whole, rest_of, records_of, octets_in, stop_at, file_stop}
 use Rattle.replay.specs.Packet.{entry_of}
-use Rattle.replay.specs.Sheet.{line_start, seen_at, last_at, entry_changes, written, entered, group_sound, marks_sound}
+use Rattle.replay.specs.Sheet.{line_start, seen_at, last_at, entry_changes, entered, group_sound, marks_sound}
 use Rattle.replay.specs.Replay.{with_record, room_for, figures_after, records_counted, all_counted, replay_figures, taken_of, stop_number, replay_demands, replay_answer, figures_told, sheet_after, taken_told, figures_handed}
 use Rattle.replay.specs.Counts.{offered_to}
 use Rattle.replay.specs.Inner.{ProperEntry}
 use Rattle.replay.specs.declared.Entry.{Entry}
 use Rattle.replay.specs.declared.Entry.TheVariants.{Passed, Data, Control, Refused}
 use Rattle.replay.specs.declared.Next.{Next}
-use Rattle.replay.specs.declared.Next.TheVariants.{End}
-use Rattle.replay.proofs.Files.{test-cases, Whole, whole_is, rest-shorter, records-none, records-one}
+use Rattle.replay.proofs.Files.{test-cases, whole_is, rest-shorter, records-none}
 use Rattle.replay.proofs.Lengths.{length-written, length-after, length-figures}
 use Rattle.replay.proofs.Entries.{entry-proper}
 use Rattle.replay.proofs.Places.{Beside, beside_same, there-in, written_below}

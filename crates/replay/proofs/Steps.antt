@@ -6,14 +6,14 @@ use Prim.Native.Nat.{ℕ}
 use lib.ListN.{length}
 use Rattle.records.specs.Head.{turn_of}
 use Rattle.records.specs.declared.Turn.{Turn}
-use Rattle.records.specs.declared.Turn.TheVariants.{End as TurnEnd, Cut as TurnCut, Long as TurnLong, Record}
+use Rattle.records.specs.declared.Turn.TheVariants.{Record}
 use Rattle.replay.specs.Packet.{entry_of}
-use Rattle.replay.specs.Sheet.{entry_changes, all_fit, entry_fits}
+use Rattle.replay.specs.Sheet.{entry_changes, entry_fits}
 use Rattle.replay.specs.Replay.{with_record, room_for, next_for, next_of, sheet_for, sheet_stepped}
 use Rattle.replay.specs.Inner.{changed}
 use Rattle.replay.specs.declared.Entry.{Entry}
 use Rattle.replay.specs.declared.Next.{Next}
-use Rattle.replay.specs.declared.Next.TheVariants.{Going, End, Long, Cut, Full}
+use Rattle.replay.specs.declared.Next.TheVariants.{Going, Full}
 use Rattle.replay.proofs.Changes.{changed-is, changed-not}
 
 module _ (sheet head body : List ℕ) where

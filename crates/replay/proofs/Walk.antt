@@ -3,7 +3,7 @@
 use mathlib.Core.Path.{◌≡◌, refl, sym, ap, ap₂, ◌∙◌}
 use mathlib.Core.Logic.{⊎_elim}
 use mathlib.Core.Bool.{true, false}
-use mathlib.Core.List.{List, [], ◌∷◌}
+use mathlib.Core.List.{List}
 use Prim.Native.Nat.{ℕ, zero, suc, ◌+◌, ◌-◌, ◌≤◌, ◌<◌, min}
 use native.Mathlib.Nat.{zero-add}
 use native.Mathlib.Omega.{arith}
@@ -16,12 +16,12 @@ use Rattle.bits.proofs.Tests.{pick-cases, no-yes, order}
 use Rattle.records.specs.Head.{size_of, body_size}
 use Rattle.records.proofs.HeadLaws.{read_all, size-front, turn-empty, turn-header, turn-long, turn-cut, turn-record}
 use Rattle.records.proofs.RecordLaws.{to_the_end}
-use Rattle.replay.specs.File.{whole, record_first, rest_of, records_of, octets_in, stop_at, file_stop}
+use Rattle.replay.specs.File.{whole, record_first, rest_of, octets_in, stop_at, file_stop}
 use Rattle.replay.specs.Replay.{with_record, figures_after, room_for, records_counted, all_counted, taken_of, replay_figures, replay_end, next_of, sheet_for, sheet_stepped}
 use Rattle.replay.specs.Inner.{goes}
 use Rattle.replay.specs.declared.Next.{Next}
 use Rattle.replay.specs.declared.Next.TheVariants.{Going, End, Long, Cut, Full}
-use Rattle.replay.proofs.Files.{test-cases, Whole, whole_is, is_whole, first-long, rest-shorter, records-none, records-one, stop-here, stop-later}
+use Rattle.replay.proofs.Files.{test-cases, Whole, whole_is, is_whole, first-long, records-none, records-one, stop-here, stop-later}
 use Rattle.replay.proofs.Steps.{next-by, stepped_by}
 
 -- ---- what is taken, the figures and the end, of octets with no whole record first, and with one

@@ -1,6 +1,6 @@
 -- What a record enters in the sheet. A data packet is repaired and then read, a control packet read; the group is that
 -- of the DID word after repair, or as received where the packet is not repaired. Assumes nothing.
-use Rattle.std.specs.Prelude.{ℕ, ◌≤◌, ◌<◌, List, eqb, length, get_or, drop}
+use Rattle.std.specs.Prelude.{ℕ, List, eqb, length, get_or, drop}
 use Rattle.bits.specs.Pick.{pick}
 use Rattle.answer.specs.Answer.{Answer, mapped}
 use Rattle.anc.specs.Head.{group_in}

@@ -1,7 +1,7 @@
 -- The lines of refused packets as the code makes them, the last first; how long the text of a replay is at most, and
 -- that it is what is written from its start on. Assumes nothing.
-use mathlib.Core.Path.{◌≡◌, refl, sym, ap, ◌∙◌}
-use mathlib.Core.List.{List, [], ◌++◌}
+use mathlib.Core.Path.{◌≡◌, sym, ap, ◌∙◌}
+use mathlib.Core.List.{List, ◌++◌}
 use Prim.Native.Nat.{ℕ, zero, suc, ◌+◌, ◌-◌, ◌*◌, ◌≤◌, ◌<◌}
 use native.Mathlib.Omega.{arith}
 use borrow.Author.Tests.{ne_eqb}
@@ -14,7 +14,7 @@ use Rattle.replay.specs.declared.Next.TheVariants.{Going, End, Long, Cut, Full}
 use Rattle.report.specs.Text.{refused_word, pair_text}
 use Rattle.report.specs.Placed.{start_in, with_text}
 use Rattle.report.specs.Inner.{Put}
-use Rattle.report.specs.Night.{night_heading, group_word, unlisted_word, read_word, lanes_word, last_word, none_word, breaks_word, field_text, name_of, last_text, group_line, refused_count, refused_line, refused_from, refused_lines, group_lines, end_text, figures_text}
+use Rattle.report.specs.Night.{night_heading, group_word, read_word, lanes_word, last_word, breaks_word, field_text, name_of, last_text, group_line, refused_count, refused_line, refused_from, refused_lines, group_lines, end_text, figures_text}
 use Rattle.report.proofs.TextLaws.{put-nothing, put_then, put_as}
 use Rattle.report.proofs.Lengths.{decimal-most, single-most, pair-most, with_size, at-end}
 

@@ -1,11 +1,10 @@
 -- `anc::all_coded` meets its contract: what is gathered is 0 exactly if each word passed is coded. Assumes nothing.
 use mathlib.Core.Path.{◌≡◌}
 use mathlib.Core.Bool.{◌&&◌}
-use mathlib.Core.List.{List}
-use Prim.Native.Nat.{ℕ, ◌-◌, ◌≤◌}
+use Prim.Native.Nat.{◌-◌, ◌≤◌}
 use lib.Dec.{eqb}
 use lib.ListN.{length, drop}
-use Rattle.anc.specs.Inner.{coded, all_coded}
+use Rattle.anc.specs.Inner.{all_coded}
 use Rattle.anc.proofs.all_coded.Given as goal
 
 abbrev pub invariant-loop-i : goal.invariant-loop-i

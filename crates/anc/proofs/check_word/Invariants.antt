@@ -1,7 +1,6 @@
 -- `anc::check_word` meets its contract: the sum so far and what is still to be added make the whole sum. Assumes nothing.
 use mathlib.Core.Path.{◌≡◌}
-use mathlib.Core.List.{List}
-use Prim.Native.Nat.{ℕ, ◌+◌, ◌-◌, ◌%◌, ◌^◌, ◌≤◌, ◌<◌}
+use Prim.Native.Nat.{◌+◌, ◌-◌, ◌%◌, ◌^◌, ◌≤◌, ◌<◌}
 use lib.ListN.{length, drop}
 use Rattle.anc.specs.Word.{sum_of}
 use Rattle.anc.proofs.check_word.Given as goal

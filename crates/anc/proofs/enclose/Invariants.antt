@@ -1,7 +1,6 @@
 -- `anc::enclose` meets its contract: up to word 3 + k the words are the packet's. Assumes nothing.
 use mathlib.Core.Path.{◌≡◌}
-use mathlib.Core.List.{List, []}
-use Prim.Native.Nat.{ℕ, ◌+◌, ◌-◌, ◌≤◌}
+use Prim.Native.Nat.{◌+◌, ◌-◌, ◌≤◌}
 use lib.ListN.{length}
 use Rattle.bits.proofs.Filling.{over}
 use Rattle.anc.specs.Enclosed.{enclosed}

@@ -1,7 +1,7 @@
 -- `anc::first_wide` meets its contract: what is left of the search is the whole search. Assumes nothing.
 use mathlib.Core.Path.{sym}
 use mathlib.Core.List.{List}
-use Prim.Native.Nat.{ℕ, ◌-◌}
+use Prim.Native.Nat.{ℕ}
 use borrow.Author.Tests.{lt-ltb, le-ltb}
 use lib.ListN.{length}
 use Rattle.anc.specs.Inner.{first_wide}

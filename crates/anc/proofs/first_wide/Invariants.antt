@@ -1,6 +1,5 @@
 -- `anc::first_wide` meets its contract: what is left of the search is the whole search. Assumes nothing.
-use mathlib.Core.List.{List}
-use Prim.Native.Nat.{ℕ, ◌-◌}
+use Prim.Native.Nat.{◌-◌}
 use lib.ListN.{length}
 use Rattle.bits.proofs.Searches.{Left}
 use Rattle.anc.specs.Word.{wide_at}

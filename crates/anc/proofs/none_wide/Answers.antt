@@ -1,5 +1,5 @@
 -- `anc::none_wide` meets its contract: what is gathered is 0 only if no word passed is above 1,023. Assumes nothing.
-use Prim.Native.Nat.{◌-◌, ◌/◌}
+use Prim.Native.Nat.{◌/◌}
 use native.Mathlib.Omega.{arith}
 use borrow.Author.Tests.{le-ltb, eqb-true}
 use lib.ListN.{length, get_or}

@@ -1,7 +1,6 @@
 -- `carrier_report::read` meets its contract: what was read stands at the start. Assumes nothing.
 use mathlib.Core.Path.{◌≡◌}
-use mathlib.Core.List.{List}
-use Prim.Native.Nat.{ℕ, ◌-◌, ◌≤◌}
+use Prim.Native.Nat.{◌-◌, ◌≤◌}
 use lib.ListN.{length}
 use Rattle.carrier_report.proofs.read.Given as goal
 

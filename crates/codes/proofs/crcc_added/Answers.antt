@@ -1,4 +1,5 @@
 -- `codes::crcc_added` meets its contract. The loop's invariant: what the code holds is the octet that the stages are
+-- sent as, after the difference and the zeros up to byte i. Assumes nothing.
 use mathlib.Core.Path.{◌≡◌, ap, ◌∙◌}
 use Prim.Native.Nat.{ℕ, ◌+◌, ◌-◌, ◌<◌}
 use native.Mathlib.Omega.{arith}

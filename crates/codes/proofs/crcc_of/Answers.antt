@@ -1,4 +1,5 @@
 -- `codes::crcc_of` meets its contract. The loop's invariant: what the code holds is the octet that the stages are sent as, after the
+-- octets passed. Assumes nothing.
 use mathlib.Core.Path.{◌≡◌, refl, sym, ap, ◌∙◌}
 use mathlib.Core.List.{List}
 use Prim.Native.Nat.{ℕ, ◌+◌, ◌≤◌, ◌<◌}

@@ -1,11 +1,11 @@
 -- `line::lay_biphase_table` meets its contract: the entries passed are those of the table. Assumes nothing.
 use mathlib.Core.Path.{◌≡◌, sym, ap, ◌∙◌}
 use mathlib.Core.List.{List, [], ◌∷◌, ◌++◌}
-use Prim.Native.Nat.{ℕ, ◌+◌, ◌-◌, ◌<◌}
+use Prim.Native.Nat.{ℕ, ◌<◌}
 use native.Mathlib.Numerals.{add-one}
 use native.Mathlib.Omega.{arith}
 use borrow.Author.Tests.{eq-eqb, ne_eqb}
-use lib.ListN.{length, take, get_or, length-set}
+use lib.ListN.{length, get_or, length-set}
 use lib.Seq.{take-suc, take-suc-set, take_all}
 use Rattle.answer.specs.Demand.{◌&◌}
 use Rattle.answer.specs.Demand.Stops.{fails}

@@ -1,7 +1,6 @@
 -- `line::lay_biphase_table` meets its contract: the entries passed are those of the table. Assumes nothing.
 use mathlib.Core.Path.{◌≡◌}
-use mathlib.Core.List.{List, []}
-use Prim.Native.Nat.{ℕ, ◌-◌, ◌≤◌}
+use Prim.Native.Nat.{◌-◌, ◌≤◌}
 use lib.ListN.{length, take}
 use Rattle.line.proofs.lay_biphase_table.Given as goal
 

@@ -1,7 +1,6 @@
 -- `line::near_end` meets its contract: the octets passed are a window of the line's symbols. Assumes nothing.
 use mathlib.Core.Path.{◌≡◌}
-use mathlib.Core.List.{List}
-use Prim.Native.Nat.{ℕ, ◌-◌, ◌*◌, ◌≤◌}
+use Prim.Native.Nat.{◌-◌, ◌*◌, ◌≤◌}
 use Rattle.bits.specs.Window.{window}
 use Rattle.bits.specs.Pack.{symbols}
 use Rattle.line.proofs.near_end.Given as goal

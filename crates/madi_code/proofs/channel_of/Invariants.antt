@@ -1,7 +1,7 @@
 -- `madi_code::channel_of` meets its contract: what is left of the channel is what the definition has left. Assumes
 -- nothing.
 use mathlib.Core.Path.{◌≡◌}
-use Prim.Native.Nat.{ℕ, ◌-◌, ◌*◌, ◌^◌, ◌≤◌, ◌<◌}
+use Prim.Native.Nat.{◌-◌, ◌*◌, ◌^◌, ◌≤◌, ◌<◌}
 use Rattle.bits.specs.Row.{big_bits}
 use Rattle.madi_code.specs.Channels.{channel_from, channel_of}
 use Rattle.madi_code.proofs.channel_of.Given as goal

@@ -1,7 +1,6 @@
 -- `madi_code::groups` meets its contract: one entry more is right with each turn, by the four bits turned and the
 -- document's table. Assumes nothing.
 use mathlib.Core.Path.{◌≡◌}
-use mathlib.Core.List.{List}
 use Prim.Native.Nat.{ℕ, ◌-◌, ◌≤◌, ◌<◌}
 use lib.ListN.{length, get_or}
 use Rattle.bits.specs.Row.{bits, big}

@@ -1,9 +1,9 @@
 -- `madi_code::has_sync` meets its contract: no command passed is 0. Assumes nothing.
 use mathlib.Core.Path.{◌≡◌, sym, ap, ◌∙◌}
 use mathlib.Core.Logic.{⊎_elim}
-use Prim.Native.Nat.{ℕ, ◌-◌, ◌≤◌, ◌<◌}
+use Prim.Native.Nat.{ℕ, ◌≤◌, ◌<◌}
 use native.Mathlib.Omega.{arith}
-use lib.ListN.{length, get_or, take, length-take}
+use lib.ListN.{get_or, take, length-take}
 use lib.Seq.{get_or-take}
 use Rattle.bits.proofs.Tests.{order}
 use Rattle.madi_code.proofs.FrameLaws.{synced-at, synced-nowhere}

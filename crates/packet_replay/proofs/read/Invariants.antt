@@ -1,7 +1,6 @@
 -- `packet_replay::read` meets its contract: what was read stands at the start. Assumes nothing.
 use mathlib.Core.Path.{◌≡◌}
-use mathlib.Core.List.{List}
-use Prim.Native.Nat.{ℕ, ◌-◌, ◌≤◌}
+use Prim.Native.Nat.{◌-◌, ◌≤◌}
 use lib.ListN.{length}
 use Rattle.packet_replay.proofs.read.Given as goal
 

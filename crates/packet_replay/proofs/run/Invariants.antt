@@ -1,7 +1,5 @@
 -- `packet_replay::run` meets its contract. Assumes nothing.
 use mathlib.Core.Path.{◌≡◌}
-use mathlib.Core.List.{List}
-use Prim.Native.Nat.{ℕ}
 use lib.ListN.{length}
 use Rattle.packet_replay.proofs.run.Given as goal
 

@@ -1,6 +1,5 @@
 -- `records::control` meets its contract. Assumes nothing.
 use mathlib.Core.Path.{sym, ap, ◌∙◌}
-use mathlib.Core.List.{List}
 use borrow.Author.Tests.{eq-eqb, ne_eqb}
 use Rattle.hd_control.specs.Read.{read_answer}
 use Rattle.answer.specs.Answer.{mapped}

@@ -1,11 +1,11 @@
 -- `replay::copy` meets its contract. Assumes nothing.
 use mathlib.Core.Path.{refl, ap, ◌∙◌}
 use mathlib.Core.List.{List}
-use Prim.Native.Nat.{ℕ, ◌-◌}
+use Prim.Native.Nat.{ℕ}
 use native.Mathlib.Omega.{arith}
 use borrow.Author.Rules.{rules}
 use lib.ListN.{get_or, set}
-use Rattle.bits.proofs.Filling.{over, over-next, over-all}
+use Rattle.bits.proofs.Filling.{over-next, over-all}
 use Rattle.replay.proofs.copy.Goals as goal
 
 pub loop-i-init : goal.loop-i-init

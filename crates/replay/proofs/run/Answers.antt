@@ -1,8 +1,6 @@
 -- `replay::run` meets its contract. Assumes nothing.
 use mathlib.Core.Path.{sym, ◌∙◌}
-use Prim.Native.Nat.{◌-◌}
 use native.Mathlib.Omega.{arith}
-use lib.ListN.{length}
 use lib.Seq.{length-take-le}
 use Rattle.replay.proofs.Walk.{goes-is, ahead-first, ahead-on, ahead-ends}
 use Rattle.replay.proofs.run.Goals as goal

@@ -1,5 +1,4 @@
 -- `report::put_refusals` meets its contract. Assumes nothing.
-use Prim.Native.Nat.{◌-◌}
 use native.Mathlib.Omega.{arith}
 use borrow.Author.Rules.{rules}
 use Rattle.report.proofs.NightLaws.{refusals-start, refusals-on, refusals-all}

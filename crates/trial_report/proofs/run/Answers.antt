@@ -1,5 +1,4 @@
 -- `trial_report::run` meets its contract. Assumes nothing.
-use Prim.Native.Nat.{◌-◌}
 use native.Mathlib.Omega.{arith}
 use Rattle.report.specs.Text.{heading}
 use Rattle.report.proofs.Lengths.{starts, heading-size}
