@@ -1,7 +1,7 @@
 // What the C program calls: numbers and slices in, a struct of numbers out. Each entry takes the answer of the crate
 // below that does the work and lays it into a struct: number and place first, the values after them, which are 0 on a
-// refusal (but for the hunt's count). Where an answer is one number, one struct serves; the header has a name for each
-// of its uses.
+// refusal (but for the hunt's count, and what the replay gives beside 23). Where an answer is one number, one struct
+// serves; the header has a name for each of its uses.
 #![tactic(auto)]
 
 ghost use Rattle.std.specs.Prelude.{◌≡◌, length};

@@ -73,7 +73,7 @@ module _ (table : List ℕ) where
       ap (λ a. after (λ l. l) a table) (e ∙ ap accepted (sym m.1)) ∙ whole (λ l. l) (returned t table) table (length-returned t table)
 
   module _ (old v : List ℕ) (e : close_answer (length old) table ≡ accepted v) where
-    closable : AllMet (close_demands (length old) table) × (table ≡ v)
+    pub closable : AllMet (close_demands (length old) table) × (table ≡ v)
     unfolding close_answer
     closable = met table (close_demands (length old) table) e
 

@@ -4,6 +4,7 @@ pub mod Moves
 pub mod Lowest
 pub mod Answering
 pub mod Counting
+pub mod AcceptedCalls
 pub mod Telling
 pub mod Turns
 pub mod MoveTurns

@@ -1,9 +1,11 @@
--- Sequences of calls on one table, and what is granted in them, by the calls and their answers alone. Assumes nothing.
+-- Sequences of calls on one table: what is granted in them, by the calls and their answers alone, and what a tenant
+-- learns in them. Assumes nothing.
 use Rattle.std.specs.Prelude.{ℕ, ◌+◌, Bool, true, false, ◌&&◌, List, [], ◌∷◌, eqb, replicate}
 use Rattle.bits.specs.Pick.{pick}
+use Rattle.bits.specs.Row.{Row}
 use Rattle.answer.specs.Answer.{Answer, mapped}
-use Rattle.leases.specs.Table.{slots_of}
-use Rattle.leases.specs.Calls.{ask_answer, ask_table, back_answer, back_table, leased_count, close_answer, close_table}
+use Rattle.leases.specs.Table.{row_of, slots_of}
+use Rattle.leases.specs.Calls.{enough_free, ask_answer, ask_table, back_answer, back_table, leased_count, close_answer, close_table}
 
 -- a tenant asks for n slots; a tenant gives back; the house closes, with a list of so many octets for the moves
 pub data Call : Type 0 where
@@ -58,3 +60,32 @@ tallied_from t so_far (event c a ∷ later) = tallied_from t (tallied t so_far c
 
 abbrev pub granted_since_return : ℕ → List Event → ℕ
 granted_since_return t history = tallied_from t 0 history
+
+-- ---- what t learns in a sequence, and what it may depend on
+
+-- a tenant asks and gives back; closing is the house's
+abbrev pub is_call_of : ℕ → Call → Bool
+is_call_of t (ask u n) = eqb u t
+is_call_of t (give_back u) = eqb u t
+is_call_of t (close room) = false
+
+-- its own calls, each with its answer
+unfoldable pub learnt : ℕ → List Event → List Event
+learnt t [] = []
+learnt t (event c a ∷ later) = pick (is_call_of t c) (event c a ∷ learnt t later) (learnt t later)
+
+-- a call of t, whether it fits, and for each slot whether it is t's after the call
+pub data Fact : Type 0 where
+  fact : Call → Bool → Row → Fact
+
+-- only a request may not fit
+abbrev pub fits : Call → List ℕ → Bool
+fits (ask u n) table = enough_free n table
+fits (give_back u) table = true
+fits (close room) table = true
+
+unfoldable pub facts : ℕ → List ℕ → List Call → List Fact
+facts t table [] = []
+facts t table (c ∷ calls) =
+    let left = table_after c table in
+    pick (is_call_of t c) (fact c (fits c table) (row_of t left) ∷ facts t left calls) (facts t left calls)

@@ -1,4 +1,4 @@
-// The figures of one channel of a block: its samples are gone through once, without a branch on a sample.
+// The figures of one channel of a block: its samples are gone through once.
 ghost use Rattle.std.specs.Prelude.{◌≡◌, true, ◌<◌, length};
 ghost use Rattle.std.specs.Int.Signed.{le_z};
 ghost use Rattle.bits.specs.Pick.{first};

@@ -42,8 +42,8 @@ fn of_read(group: u32, lanes: u32, read: hd_read::ReadAnswer) -> Entry
     }
 }
 
-// Repaired, and then read; the words that repair refuses stay as received.
-// What comes of a packet from its group, the answer of its repair and the words after it.
+// What comes of a packet from its group, the answer of its repair and the words after it, which are read only where
+// repair accepts.
 fn heard(group: u32, lanes: NumberAnswer, words: &[u16]) -> Entry
     ensures { result ≡ data_heard group (number_said lanes) (mapped fields_read (read_answer words.now 4)) }
 {
