@@ -1,8 +1,8 @@
 # make report      runs the report program on a file of records (RECORDS=file for another one)
 # make replay      runs packet_replay on a night's records (NIGHT=file for another one)
-# make test        everything: format, contracts, papers, the C programs without the library, all proofs, wrong answers
-#                  and programs, and the C boundary of the proved library; the last line is the verdict of rt ci, printed
-#                  only if everything passed
+# make test        everything: layout, contracts, papers, the C programs without the library, all proofs, wrong answers
+#                  and programs, and the C boundary of the proved library; the last line is the verdict of rt ci,
+#                  printed only if everything passed
 # make boundary    the C boundary: the library against the second program, call by call, and the example driver
 # make carry       builds build/carry, the longer example, and tests its edge cases
 # make sound       ten seconds of sound from sox over each carrier and back, undamaged and damaged
@@ -10,72 +10,76 @@
 # make promises    regenerates docs/WRONG-ANSWERS.md from the edit files
 # make statements  writes build/statements.md: each promise with the full text of the statements that it names
 # make pages       regenerates man/lampcoil.3 from the header
-# make lib         proves the library and builds target/staticlib/liblampcoil.a for C on x86-64
-# make shared      builds the shared library from the archive, build/liblampcoil.so.VERSION
+# make lib         proves the library and builds build/liblampcoil.a for C on x86-64
+# make shared      builds the shared library from the archive, build/liblampcoil.so.N, N the major version
 # make install     installs archive, shared library, header, pkg-config file, both programs and all manual pages under
 #                  DESTDIR and PREFIX
 # make uninstall   removes them
 # make deb         builds Debian packages of what make install installs, lints and tests them
-# make own         builds build/own/liblampcoil.a, the proved library compiled for this machine's processor
-# make compare_own compares that library with the second program, natively (CALLS=n of each group)
+# make own         builds build/own/liblampcoil.a, the proved library compiled for this machine's own processor
+# make compare_own compares that library with the second program (CALLS=n of each group)
 # make bench       benchmarks against C by hand; writes docs/FIGURES.md
 # make stack       the stack depth of a call of each entry
 # make counts      after make bench: the x86-64 instructions of a call
 # make model       cycles of the loops of the writers, the AES3 reader and the level sheet, by models of two processors
 # make expected    regenerates the expected output of tests from the second program
 # make mutants     mutation test of the comparing program, on mutants of the second program
-# make tried       runs every program on the interpreter and compiled three ways
+# make tried       runs every program without proof, on the interpreter and compiled with checks
 # make installed   tests install and uninstall in a separate folder
 # make clean       removes what was built
 .POSIX:
 .NOTPARALLEL:
-.PHONY: report test read alone proofs edits boundary lib program install uninstall bench expected mutants promises clean header second \
-	held hand listed compare flips card installed
+.PHONY: report test read alone proofs edits boundary lib program install uninstall bench expected mutants promises \
+	clean header second held hand listed compare flips card installed
 .PHONY: kit prefix deb pages tried shared failing carry carry_alone sound replay counts model stack own compare_own
-.PHONY: night night_alone night_short hub statements
+.PHONY: night night_alone night_short hub statements layout rest verdict
 
 PREFIX = /usr/local
 DESTDIR =
 RECORDS = examples/desk.rec
 NIGHT = examples/night.rec
 
-# Crates and edit files that are checked at a time: more than twice the processors of a small machine, since each batch
-# waits for its slowest member; many more slow each other down.
+# Mutants that are compiled and tried at a time: somewhat more than the processors of a small machine, since each batch
+# waits for its slowest member.
 JOBS = 5
 
 CC = cc
 CFLAGS = -std=c11 -O2 -Wall -Wextra -Werror -pedantic
 INCLUDES = -Iinclude -Itests/second
-ARCHIVE = target/staticlib/liblampcoil.a
+ARCHIVE = build/liblampcoil.a
 X86 = tests/on-x86
 
-SECOND = tests/second/second.c tests/second/second_status.c tests/second/second_length.c tests/second/second_aes3.c tests/second/second_madi.c \
-	tests/second/second_hd.c tests/second/second_control.c tests/second/second_talkback.c \
+SECOND = tests/second/second.c tests/second/second_status.c tests/second/second_length.c tests/second/second_aes3.c \
+	tests/second/second_madi.c tests/second/second_hd.c tests/second/second_control.c tests/second/second_talkback.c \
 	tests/second/second_patch.c tests/second/second_leases.c tests/second/second_levels.c tests/second/second_replay.c
 SPOIL = tests/second/spoil.c
-COMPARE = tests/compare/compare.c tests/compare/edges.c tests/compare/compare_small.c tests/compare/compare_hd.c tests/compare/compare_control.c \
-	tests/compare/compare_madi.c tests/compare/compare_commands.c tests/compare/compare_aes3.c tests/compare/compare_length.c \
-	tests/compare/compare_talkback.c tests/compare/compare_patch.c tests/compare/compare_leases.c tests/compare/compare_levels.c tests/compare/compare_replay.c
-HAND = bench/hand_aes3.c bench/hand_madi.c bench/hand_hd.c bench/hand_control.c bench/hand_talkback.c bench/hand_patch.c \
-	bench/hand_levels.c bench/hand_leases.c bench/hand_replay.c
+COMPARE = tests/compare/compare.c tests/compare/edges.c tests/compare/compare_small.c tests/compare/compare_hd.c \
+	tests/compare/compare_control.c tests/compare/compare_madi.c tests/compare/compare_commands.c \
+	tests/compare/compare_aes3.c tests/compare/compare_length.c tests/compare/compare_talkback.c \
+	tests/compare/compare_patch.c tests/compare/compare_leases.c tests/compare/compare_levels.c \
+	tests/compare/compare_replay.c
+HAND = bench/hand_aes3.c bench/hand_madi.c bench/hand_hd.c bench/hand_control.c bench/hand_talkback.c \
+	bench/hand_patch.c bench/hand_levels.c bench/hand_leases.c bench/hand_replay.c
 FORMED = bench/formed_aes3.c bench/formed_madi.c bench/formed_hd.c bench/formed_control.c bench/formed_patch.c \
 	bench/formed_levels.c bench/formed_replay.c
 CARRY = examples/carry.c examples/carry_back.c
-HUB = examples/hub.c examples/hub_plan.c examples/hub_desk.c examples/hub_sound.c examples/hub_aes3.c examples/hub_madi.c \
-	examples/hub_hd.c examples/hub_search.c examples/hub_figures.c
+HUB = examples/hub.c examples/hub_plan.c examples/hub_desk.c examples/hub_sound.c examples/hub_aes3.c \
+	examples/hub_madi.c examples/hub_hd.c examples/hub_search.c examples/hub_figures.c
 
 # ---- the library and the programs
 
 # One checksum of the kit and of every source, so that an archive built from other sources is never used.
-SOURCES = { rt version; find crates crates.txt -type f \( -name '*.rt' -o -name '*.antt' -o -name crates.txt \) \
-	-exec sha256sum {} + | LC_ALL=C sort; } | sha256sum
+SOURCES = { rt version; find crates crates.txt -name out -prune -o \
+	-type f \( -name '*.rt' -o -name '*.antt' -o -name crates.txt \) -exec sha256sum {} + | LC_ALL=C sort; } | sha256sum
 
 # Targets that prove, or build from what is proved, need the kit's command.
 kit:
-	@command -v rt >/dev/null || { echo "rt is not on the path: add the folder bin of the Rattle kit to PATH" >&2; exit 2; }
+	@command -v rt >/dev/null || \
+	    { echo "rt is not on the path: add the folder bin of the Rattle kit to PATH" >&2; exit 2; }
 
-# The crates that the library uses are proved first, several at a time; rt staticlib alone would prove them one after
-# the other. The checksum is taken before, so a source that changes meanwhile makes the archive out of date.
+# The crates that the library uses are proved first, several at a time, and then the library itself, which rt builds in
+# the folder out/ of its crate. It is copied here, since rt ci removes it there. The checksum is taken before, so a
+# source that changes meanwhile makes the archive out of date.
 $(ARCHIVE): lib
 lib: kit
 	@sum=$$($(SOURCES)); \
@@ -84,64 +88,79 @@ lib: kit
 	else \
 	    rm -f $(ARCHIVE) $(ARCHIVE).sum; \
 	    echo "lib: proving the library and what it is made of; from nothing this takes minutes" >&2; \
-	    RT_JOBS=$(JOBS) tests/progress build/lib.log rt check $$(sed -n 's/^lampcoil: //p' crates.txt) && \
-	    tests/progress build/staticlib.log rt staticlib lampcoil && echo "$$sum" >$(ARCHIVE).sum; \
+	    tests/progress build/log lampcoil lib && cp crates/lampcoil/out/liblampcoil.a $(ARCHIVE) && \
+	    echo "$$sum" >$(ARCHIVE).sum && echo "lib: $(ARCHIVE)"; \
 	fi
 
-# rt itself finds what changed since the last proof, and proves only that.
+# rt run itself finds what changed since the last proof, and proves only that. It then runs the program, here on no
+# input.
 PROGRAMS = carrier_report packet_replay
 program: kit
-	@for p in $(PROGRAMS); do [ -f target/bin/$$p ] || { \
-	    echo "The first run proves $$p and what it is made of, which takes minutes; later runs prove what changed." >&2; \
-	    rm -f target/stamp/$$p; }; done
-	@RT_JOBS=$(JOBS) tests/progress build/program.log rt check $(PROGRAMS)
+	@mkdir -p build/bin
+	@for p in $(PROGRAMS); do \
+	    [ -f build/bin/$$p ] || \
+	        echo "The first run proves $$p and what it is made of, which takes minutes; later ones what changed." >&2; \
+	    tests/progress build/log $$p run </dev/null >/dev/null && \
+	    { cmp -s crates/$$p/out/$$p build/bin/$$p || install -m 755 crates/$$p/out/$$p build/bin/$$p; } || \
+	    { rm -f build/bin/$$p; exit 1; }; done
 
-# The archive is position-independent code (the linker rejects other code here), so it can be a shared library too.
+# The archive is position-independent code (the linker rejects other code here), so it can be a shared library too. Its
+# file here has the name by which programs load it; make install adds the other two names. (rt ci refuses links in a
+# checkout.)
 VERSION = $$(sed -n 's/^.define LAMPCOIL_VERSION "\(.*\)"$$/\1/p' include/lampcoil.h)
 MAJOR = $$(sed -n 's/^.define LAMPCOIL_VERSION_MAJOR //p' include/lampcoil.h)
 shared: lib
 	@mkdir -p build
 	rm -f build/liblampcoil.so*
-	so=liblampcoil.so; \
-	$(X86) dynamic -shared -Wl,-z,text -Wl,-z,defs -Wl,-soname,$$so.$(MAJOR) -o build/$$so.$(VERSION) \
+	so=liblampcoil.so.$(MAJOR); \
+	$(X86) dynamic -shared -Wl,-z,text -Wl,-z,defs -Wl,-soname,$$so -o build/$$so \
 	    -Wl,--whole-archive $(ARCHIVE) -Wl,--no-whole-archive && \
-	ln -s $$so.$(VERSION) build/$$so.$(MAJOR) && ln -s $$so.$(MAJOR) build/$$so && \
 	$(X86) dynamic $(CFLAGS) -Iinclude -o build/card_shared examples/card.c build/$$so -Wl,-rpath,"$$(pwd)/build" && \
-	$(X86) kit build/card_shared | cmp - examples/card.expected && echo "shared: build/$$so.$(VERSION)"
+	$(X86) kit build/card_shared | cmp - examples/card.expected && echo "shared: build/$$so"
 
 # Each of these proves the one program that it runs.
 report:
 	@$(MAKE) -s program PROGRAMS=carrier_report
-	@$(X86) kit target/bin/carrier_report <$(RECORDS)
+	@$(X86) kit build/bin/carrier_report <$(RECORDS)
 
 replay:
 	@$(MAKE) -s program PROGRAMS=packet_replay
-	@$(X86) kit target/bin/packet_replay <$(NIGHT)
+	@$(X86) kit build/bin/packet_replay <$(NIGHT)
 
 # ---- tests
 
-# The order matters. Parts that use one processor and do not depend on each other run two at a time (tests/at-once). rt
-# ci removes target/, so what needs the archive comes after it. Its verdict is held back until everything else has
-# passed; a failure anywhere ends the run without it.
-test: read alone proofs edits
+# A failure anywhere ends the run without the verdict of rt ci, which tests/proofs holds back until everything else has
+# passed. .ci/run has the same parts, with rt ci first. Parts that use one processor and do not depend on each other run
+# two at a time (tests/at-once).
+test: read alone proofs rest verdict
+
+# What needs the proofs of rt ci, or builds on them.
+rest: edits
 	tests/at-once '$(MAKE) -s tried' '$(MAKE) -s lib'
 	$(MAKE) -s boundary
-	@echo "logs: build/ci.log (rt ci, whole), target/log (each crate), target/must-fail (each edit file), build (the C programs; build/tried, each program)"
+
+verdict:
+	@echo "logs: build/ci.log (rt ci, whole), build/must-fail (each edit file), build/log (each crate of the library)," \
+	    "build/tried (each program), build (the C programs)"
 	@cat build/verdict
 
-# Checks that only read: the format, the contracts, the callers' buffers, what proofs unfold, where an Inner is used, the
-# papers; and that these checks fail where they must (tests/spoilt/try).
-read: kit
-	rt fmt --check
+# Checks that only read: the layout, the contracts, the callers' buffers, what proofs unfold, the papers; and that these
+# checks fail where they must (tests/spoilt/try).
+read: kit layout
 	tests/contracts
 	tests/lent
 	tests/spoilt/try
 	tests/unfoldings
-	tests/inner
 	tests/promises
 	$(MAKE) -s statements
 	tests/papers
-	tests/columns
+
+# Every file of a crate is laid out as rt fmt does it.
+layout: kit
+	@rt=$$(readlink -f "$$(command -v rt)"); \
+	find crates -name out -prune -o -type f \( -name '*.rt' -o -name '*.antt' \) \
+	    -exec "$${rt%/*}/rattle" fmt --check {} + || \
+	    { echo "layout: run rt fmt in the folders of these crates" >&2; exit 1; }
 
 # The C programs without the library.
 alone: header build/watched.o build/sound_tool build/night_tool
@@ -150,9 +169,9 @@ alone: header build/watched.o build/sound_tool build/night_tool
 
 # All proofs, wrong answers and programs; then the reason why each wrong answer was rejected.
 proofs: kit
-	RT_JOBS=$(JOBS) tests/proofs
+	tests/proofs
 
-edits:
+edits: kit
 	tests/edits
 
 boundary: lib build/sound_tool build/night_tool
@@ -278,7 +297,7 @@ carry: $(ARCHIVE) build/sound_tool
 
 # Not part of the gate: docs/SOUND.md says how long it takes.
 sound: carry program
-	tests/sound build "$(X86) kit target/bin/carrier_report" $(X86) run build/carry
+	tests/sound build "$(X86) kit build/bin/carrier_report" $(X86) run build/carry
 
 # A night at the hub (docs/NIGHT.md). Over the second program: two seconds; edge cases with sanitisers; and a test that
 # its verdict can fail. Over the library: two seconds, with the report and the replay of their records. Not part of the
@@ -309,17 +328,17 @@ night: hub program build/night_tool
 
 # Each program when its output cannot be written or its input cannot be read, and when its input comes in parts.
 failing: program
-	tests/failing target/bin/carrier_report carrier_report 'carrier report 1' 'records 0' \
-	    'record 2: length above 8192, the rest was not read'
-	tests/failing target/bin/packet_replay packet_replay "$$(echo 'packet replay 1'; \
-	    for g in 1 2 3 4; do echo "group $$g read 0 lanes 0 last none breaks 0"; done)" failed silent
-	tests/live target/bin/carrier_report carrier_report examples/desk.rec examples/desk.expected 'carrier report 1'
-	tests/live target/bin/packet_replay packet_replay examples/night.rec examples/night.expected
+	tests/failing build/bin/carrier_report carrier_report 'carrier report 1' 'records 0'
+	tests/failing build/bin/packet_replay packet_replay "$$(echo 'packet replay 1'; \
+	    for g in 1 2 3 4; do echo "group $$g read 0 lanes 0 last none breaks 0"; done)" end silent
+	tests/live build/bin/carrier_report carrier_report examples/desk.rec examples/desk.expected 'carrier report 1'
+	tests/live build/bin/packet_replay packet_replay examples/night.rec examples/night.expected
 
 mutants:
 	CC="$(CC)" JOBS=$(JOBS) tests/compare/mutants
 
-# Every program on the interpreter and compiled three ways, without proof: a test of the kit's back end.
+# Every program on the interpreter and compiled with checks, without proof: a test of the kit's back end, beside the two
+# compilers by which rt ci builds and runs each of them.
 tried:
 	tests/tried build/tried
 
@@ -329,13 +348,13 @@ expected:
 
 # ---- figures
 
-# The proved library compiled for this machine's processor, for benchmarks and many more calls; bench/own says how.
+# The proved library compiled for this machine's own processor, for benchmarks and many more calls; bench/own says how.
 OWN = build/own/liblampcoil.a
 own: lib
 	@if [ -f $(OWN) ] && cmp -s $(ARCHIVE).sum $(OWN).sum; then echo "own: $(OWN) is of these sources"; else \
 	    rm -f $(OWN).sum; bench/own $(OWN) && cp $(ARCHIVE).sum $(OWN).sum; fi
 
-# CALLS random calls of each group, natively.
+# CALLS random calls of each group.
 CALLS = 1000000
 compare_own: own
 	$(CC) $(CFLAGS) $(INCLUDES) -o build/own/compare $(COMPARE) $(SPOIL) $(SECOND) $(OWN)
@@ -343,11 +362,9 @@ compare_own: own
 	cat build/own/compare.txt
 	tests/compared build/own/compare.txt
 
-# On x86-64 the archive itself is measured, elsewhere the library compiled for this machine's processor.
 bench: $(ARCHIVE) program
 	@mkdir -p build
-	archive=$(ARCHIVE); [ "$$(uname -m)" = x86_64 ] || { $(MAKE) -s own && archive=$(OWN); } && \
-	bench/link build "bench/kit-cc own -std=c11 -O3 $(INCLUDES)" $$archive bench/bench.c bench/rows.c $(HAND) $(FORMED)
+	bench/link build "bench/kit-cc -std=c11 -O3 $(INCLUDES)" $(ARCHIVE) bench/bench.c bench/rows.c $(HAND) $(FORMED)
 	$(X86) cc $(CFLAGS) -O3 $(INCLUDES) -o build/report_hand bench/report_hand.c $(HAND)
 	$(CC) $(CFLAGS) $(INCLUDES) -o build/mixed_records tests/second/mixed_records.c tests/second/records.c $(SPOIL) $(SECOND)
 	build/mixed_records 20000 2 >build/many.rec
@@ -357,30 +374,30 @@ bench: $(ARCHIVE) program
 	cp build/figures.md docs/FIGURES.md
 	cat docs/FIGURES.md
 
-# make counts and make model need x86-64 code on any machine; the objects of bench/link are x86-64 code only on x86-64.
-build/x86_objects: $(ARCHIVE)
+# The C of the benchmarks, compiled as for make bench.
+build/c_objects: $(ARCHIVE)
 	@rm -rf $@ && mkdir -p $@
 	for f in bench/bench.c bench/rows.c $(HAND) $(FORMED); do \
-	    bench/kit-cc x86 -std=c11 -O3 $(INCLUDES) -c -o $@/$${f##*/}.o $$f || exit 1; done
+	    bench/kit-cc -std=c11 -O3 $(INCLUDES) -c -o $@/$${f##*/}.o $$f || exit 1; done
 
-counts: build/x86_objects
-	$(X86) cc -o build/bench_x86 build/x86_objects/*.o $(ARCHIVE)
-	bench/instructions build/bench_x86 docs/FIGURES.md
+counts: build/c_objects
+	$(X86) cc -o build/bench_counted build/c_objects/*.o $(ARCHIVE)
+	bench/instructions build/bench_counted docs/FIGURES.md
 
 stack: $(ARCHIVE)
 	@mkdir -p build
 	$(X86) cc $(CFLAGS) $(INCLUDES) -o build/stack bench/stack.c bench/rows.c $(HAND) $(FORMED) $(ARCHIVE)
 	$(X86) run build/stack
 
-model: build/x86_objects
+model: build/c_objects
 	@echo "| function | instructions | Skylake | Zen 3 |"
 	@echo "|---|---|---|---|"
 	@bench/model build $(ARCHIVE) lampcoil_aes3_write lampcoil_aes3_read lampcoil_madi_write lampcoil_level_add
-	@bench/model build build/x86_objects/hand_aes3.c.o hand_aes3_write hand_aes3_read
-	@bench/model build build/x86_objects/formed_aes3.c.o formed_aes3_write formed_aes3_read
-	@bench/model build build/x86_objects/hand_madi.c.o hand_madi_write
-	@bench/model build build/x86_objects/formed_madi.c.o formed_madi_write
-	@bench/model build build/x86_objects/hand_levels.c.o hand_level_add
+	@bench/model build build/c_objects/hand_aes3.c.o hand_aes3_write hand_aes3_read
+	@bench/model build build/c_objects/formed_aes3.c.o formed_aes3_write formed_aes3_read
+	@bench/model build build/c_objects/hand_madi.c.o hand_madi_write
+	@bench/model build build/c_objects/formed_madi.c.o formed_madi_write
+	@bench/model build build/c_objects/hand_levels.c.o hand_level_add
 
 # ---- installing
 
@@ -398,14 +415,14 @@ install: prefix lib shared program
 	sed -e 's|@PREFIX@|$(PREFIX)|' -e "s|@VERSION@|$(VERSION)|" lampcoil.pc.in >build/lampcoil.pc
 	install -d "$(AT)/lib/pkgconfig" "$(AT)/include" "$(AT)/bin" "$(AT)/share/man/man1" "$(AT)/share/man/man3"
 	install -m 644 $(ARCHIVE) "$(AT)/lib/liblampcoil.a"
-	install -m 644 build/liblampcoil.so.$(VERSION) "$(AT)/lib/liblampcoil.so.$(VERSION)"
+	install -m 644 build/liblampcoil.so.$(MAJOR) "$(AT)/lib/liblampcoil.so.$(VERSION)"
 	ln -sf liblampcoil.so.$(VERSION) "$(AT)/lib/liblampcoil.so.$(MAJOR)"
 	ln -sf liblampcoil.so.$(MAJOR) "$(AT)/lib/liblampcoil.so"
 	install -m 644 include/lampcoil.h "$(AT)/include/lampcoil.h"
 	install -m 644 build/lampcoil.pc "$(AT)/lib/pkgconfig/lampcoil.pc"
 	install -m 644 man/lampcoil.3 "$(AT)/share/man/man3/lampcoil.3"
 	for p in $(PROGRAMS); do \
-	    install -m 755 target/bin/$$p "$(AT)/bin/$$p" && \
+	    install -m 755 build/bin/$$p "$(AT)/bin/$$p" && \
 	    install -m 644 man/$$p.1 "$(AT)/share/man/man1/$$p.1" || exit 1; done
 
 uninstall: prefix
@@ -422,4 +439,4 @@ deb: lib shared program
 	tests/packages build/deb
 
 clean:
-	rm -rf build target
+	rm -rf build crates/*/out

@@ -3,7 +3,6 @@
      carry aes3              two channels; a record for each block of 192 frames
      carry madi [channels]   1 to 64 channels, 2 if not said; a record for each frame
      carry hd [group]        four channels in a packet of group 1 to 4, 1 if not said; a record for each frame
-     carry hd .. --control   the same, with a control packet before the first packet of each video frame
      carry back              such records to the samples again
 
    Samples are interleaved, 32 bits each, the lowest octet first, 24 bits left-justified: what sox calls s32 and ALSA
@@ -18,40 +17,12 @@
 #include <stdio.h>
 #include <string.h>
 
-const record_shape in_record[KINDS] = {
-    [NO_KIND] = {"no kind", 0, 0}, [AES3] = {"AES3", FRAMES, 2},   [HD] = {"HD", 1, 4},
-    [MADI] = {"MADI", 1, 0},       [CONTROL] = {"control", 0, 0},
-};
+const record_shape in_record[KINDS] = {{0, 0}, {FRAMES, 2}, {1, 4}, {1, 0}};
 uint64_t record_number;
-
-/* The last refusal that was told, the record that had it last, and how many had it after the one that was told. */
-static struct { uint32_t number, place; uint64_t last, more; } same;
-
-void tell_rest(void)
-{
-    if (same.more == 1)
-        fprintf(stderr, "carry: record %" PRIu64 ": refused in the same way\n", same.last);
-    if (same.more > 1)
-        fprintf(stderr, "carry: records %" PRIu64 " to %" PRIu64 ": refused in the same way, %" PRIu64 " records\n",
-                same.last - same.more + 1, same.last, same.more);
-    same.more = 0;
-}
-
-void tell_refused(uint32_t number, uint32_t place)
-{
-    if (same.last + 1 == record_number && same.number == number && same.place == place)
-        same.more++;
-    else
-        tell("refused, number %u at %u: %s", number, place, lampcoil_refusal_text(number));
-    same.number = number;
-    same.place = place;
-    same.last = record_number;
-}
 
 void tell(const char *format, ...)
 {
     va_list words;
-    tell_rest();
     va_start(words, format);
     fputs("carry: ", stderr);
     if (record_number != 0)
@@ -89,15 +60,12 @@ typedef struct {
     uint64_t frame;      /* of the sound, from its beginning */
     uint32_t level, dbn; /* what the next record goes on from */
     uint64_t shortened;  /* samples that had more than 24 bits */
-    int control;         /* whether control packets are sent too */
 } sender;
 
 static void put_record(uint32_t kind, const uint8_t *payload, size_t n)
 {
-    size_t length = LAMPCOIL_RECORD_HEADER_OCTETS - LAMPCOIL_RECORD_LENGTH_OCTETS + n;
-    const uint8_t head[LAMPCOIL_RECORD_HEADER_OCTETS] = {
-        0, 0, (uint8_t)(length >> 8), (uint8_t)length, LAMPCOIL_RECORD_VERSION, (uint8_t)kind,
-    };
+    size_t length = n + 2;
+    const uint8_t head[6] = {0, 0, (uint8_t)(length >> 8), (uint8_t)length, VERSION, (uint8_t)kind};
     put(head, sizeof head);
     put(payload, n);
 }
@@ -125,7 +93,7 @@ static void send_aes3(sender *s, const int32_t *samples, uint32_t frames)
     lampcoil_verdict v = lampcoil_aes3_write(samples, LAMPCOIL_BLOCK_SAMPLES, side, LAMPCOIL_SIDE_OCTETS, s->level,
                                              line, LAMPCOIL_BLOCK_OCTETS);
     ACCEPTED("aes3 write", v);
-    s->level = LAMPCOIL_AES3_LEVEL_AFTER(line);
+    s->level = line[LAMPCOIL_BLOCK_OCTETS - 1] & 1u;
     put_record(AES3, line, sizeof line);
 }
 
@@ -165,36 +133,16 @@ static void send_madi(sender *s, uint32_t f, uint32_t *words)
     payload[2] = (uint8_t)(bits >> 8);
     payload[3] = (uint8_t)bits;
     write_frame(channels, words, s->channels, syncs, s->level, payload + 4);
-    s->level = LAMPCOIL_MADI_LEVEL_AFTER(payload + 4, bits);
+    s->level = payload[4 + (bits - 1) / 8] >> (7 - (bits - 1) % 8) & 1u;
     put_record(MADI, payload, 4 + octets);
 }
 
-/* Words as octets, the higher first. */
-static void put_words(uint32_t kind, const uint16_t *words, size_t n)
-{
-    uint8_t payload[2 * LAMPCOIL_PACKET_WORDS];
-    for (size_t w = 0; w < n; w++) {
-        payload[2 * w] = (uint8_t)(words[w] >> 8);
-        payload[2 * w + 1] = (uint8_t)words[w];
-    }
-    put_record(kind, payload, 2 * n);
-}
-
-/* All four channels are active, at 48 kHz, synchronous; there is no frame number, and no delay that is valid. */
-static void send_control(const sender *s)
-{
-    uint16_t words[LAMPCOIL_CONTROL_WORDS];
-    lampcoil_verdict v = lampcoil_hd_control_write(s->group, 0, LAMPCOIL_CONTROL_48_KHZ, 0, 15, 0, 0, 0, 0, words,
-                                                   LAMPCOIL_CONTROL_WORDS);
-    ACCEPTED("hd control write", v);
-    put_words(CONTROL, words, LAMPCOIL_CONTROL_WORDS);
-}
-
 /* The clock phase is the sample's place on its video line, in video clocks: 74.25 MHz has 12,375 clocks for every eight
-   frames at 48 kHz, and a line of 1,080 lines at 30 Hz has 2,200. A video frame then has 1,600 frames of sound. */
+   frames at 48 kHz, and a line of 1,080 lines at 30 Hz has 2,200. */
 static void send_hd(sender *s, uint32_t f, const uint32_t *bodies)
 {
     uint16_t words[LAMPCOIL_PACKET_WORDS];
+    uint8_t payload[2 * LAMPCOIL_PACKET_WORDS];
     uint32_t phase = (uint32_t)(12375 * s->frame / 8 % 2200), z = f == 0;
     lampcoil_dbn next = lampcoil_hd_next_dbn(s->dbn);
     lampcoil_verdict v = lampcoil_hd_write(s->group, s->dbn, phase, 0, z, z, bodies, LAMPCOIL_PACKET_BODIES, words,
@@ -202,9 +150,11 @@ static void send_hd(sender *s, uint32_t f, const uint32_t *bodies)
     ACCEPTED("hd write", v);
     ACCEPTED("next data block", next);
     s->dbn = next.dbn;
-    if (s->control && s->frame % 1600 == 0)
-        send_control(s);
-    put_words(HD, words, LAMPCOIL_PACKET_WORDS);
+    for (uint32_t w = 0; w < LAMPCOIL_PACKET_WORDS; w++) {
+        payload[2 * w] = (uint8_t)(words[w] >> 8);
+        payload[2 * w + 1] = (uint8_t)words[w];
+    }
+    put_record(HD, payload, sizeof payload);
 }
 
 /* A block of which the first frames are the sound's and the others, silence here, are marked not valid. */
@@ -272,21 +222,16 @@ int main(int words, char **word)
 {
     static char in[1 << 16], out[1 << 16];
     sender s = {.group = 1, .dbn = 1};
-    const char *what = words > 1 ? word[1] : "", *more = NULL;
-    int status, left = words - 2, back = strcmp(what, "back") == 0;
+    const char *what = words > 1 ? word[1] : "", *more = words > 2 ? word[2] : NULL;
+    int status, back = strcmp(what, "back") == 0;
     if (strcmp(what, "aes3") == 0)
         s.kind = AES3;
     else if (strcmp(what, "madi") == 0)
         s.kind = MADI;
     else if (strcmp(what, "hd") == 0)
         s.kind = HD;
-    for (int k = 2; k < words; k++)
-        if (s.kind == HD && !s.control && strcmp(word[k], "--control") == 0)
-            s.control = 1, left--;
-        else if (more == NULL && (s.kind == MADI || s.kind == HD))
-            more = word[k], left--;
-    if ((s.kind == NO_KIND && !back) || left > 0)
-        STOP("usage: carry aes3 | carry madi [channels] | carry hd [group] [--control] | carry back");
+    if ((s.kind == NO_KIND && !back) || words > 3 || (more != NULL && s.kind != MADI && s.kind != HD))
+        STOP("usage: carry aes3 | carry madi [channels] | carry hd [group] | carry back");
     s.channels = s.kind == MADI ? number_in(more, "channels", MOST_CHANNELS, 2) : in_record[s.kind].channels;
     if (s.kind == HD)
         s.group = number_in(more, "group", 4, 1);

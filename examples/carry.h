@@ -9,19 +9,12 @@
 
 enum { FRAMES = LAMPCOIL_BLOCK_SAMPLES / 2, MOST_CHANNELS = LAMPCOIL_MADI_MOST_CHANNELS };
 
-/* The kinds of a record, as lampcoil.h numbers them. */
-enum {
-    NO_KIND,
-    AES3 = LAMPCOIL_RECORD_AES3,
-    HD = LAMPCOIL_RECORD_HD,
-    MADI = LAMPCOIL_RECORD_MADI,
-    CONTROL = LAMPCOIL_RECORD_CONTROL,
-    KINDS
-};
+/* A record: its length in four octets, the highest first, then as many octets: a version, a kind, the payload. */
+enum { VERSION = 1, MOST_RECORD = 8192 };
+enum { NO_KIND, AES3, HD, MADI, KINDS };
 
-/* The name of each kind; how many frames of sound a record of it has, and of how many channels. MADI's channels are the
-   sound's, and a control packet has no sound. */
-typedef struct { const char *name; uint32_t frames, channels; } record_shape;
+/* How many frames a record of each kind has, and of how many channels; MADI's channels are the sound's. */
+typedef struct { uint32_t frames, channels; } record_shape;
 extern const record_shape in_record[KINDS];
 
 /* What the program ends with. */
@@ -32,11 +25,6 @@ extern uint64_t record_number;
 
 /* A line on standard error; STOP then ends the program. */
 void tell(const char *format, ...);
-
-/* A refusal of the record at hand. Where the record before it was refused in the same way, it is only counted, and the
-   count is told before the next line, or by tell_rest. */
-void tell_refused(uint32_t number, uint32_t place);
-void tell_rest(void);
 #define STOP(...) (tell(__VA_ARGS__), exit(STOPPED))
 
 /* Ends the program where the library refuses what it must accept: the fault is then this program's own. */

@@ -1,6 +1,5 @@
 /* carry back: records to sound. */
 #include "carry.h"
-#include <stdio.h>
 #include <string.h>
 
 /* What one record held. */
@@ -16,7 +15,6 @@ typedef struct {
     uint32_t kind, group, channels; /* of the first record that was accepted; kind is NO_KIND till then */
     uint32_t likely;                /* the kind that the first refused one before it says it has */
     uint64_t waiting;               /* how many were refused before it: their silence is due when it comes */
-    uint64_t controls;              /* control packets that were passed over */
     int status;
 } receiver;
 
@@ -123,61 +121,30 @@ static void receive_hd(const uint8_t *payload, size_t n, received *got)
     receive_bodies(bodies, LAMPCOIL_PACKET_BODIES, got);
 }
 
-/* A control packet holds no sound, so that nothing is lost where it is damaged. */
-static void receive_control(const uint8_t *payload, size_t n, received *got)
-{
-    uint16_t words[LAMPCOIL_CONTROL_WORDS];
-    lampcoil_hd_control_answer a = {.number = LAMPCOIL_REFUSED_LENGTH};
-    if (n == 2 * LAMPCOIL_CONTROL_WORDS) {
-        for (uint32_t w = 0; w < LAMPCOIL_CONTROL_WORDS; w++)
-            words[w] = (uint16_t)(payload[2 * w] << 8 | payload[2 * w + 1]);
-        a = lampcoil_hd_control_read(words, LAMPCOIL_CONTROL_WORDS);
-    }
-    if (answered(got, a.number, a.place))
-        got->group = a.group;
-}
-
-/* A record from its version on. */
 static void receive(const uint8_t *record, size_t length, received *got)
 {
-    const size_t head = LAMPCOIL_RECORD_HEADER_OCTETS - LAMPCOIL_RECORD_LENGTH_OCTETS;
-    const uint8_t *payload = record + head;
     got->kind = NO_KIND;
     got->group = 0; /* a packet alone has one */
     got->faults = 0;
-    if (length < head || record[0] != LAMPCOIL_RECORD_VERSION || record[1] == NO_KIND || record[1] >= KINDS) {
+    if (length < 2 || record[0] != VERSION || record[1] == NO_KIND || record[1] >= KINDS) {
         answered(got, LAMPCOIL_REFUSED_RANGE, 0);
         return;
     }
     got->kind = record[1];
     got->channels = in_record[got->kind].channels;
     if (got->kind == AES3)
-        receive_aes3(payload, length - head, got);
+        receive_aes3(record + 2, length - 2, got);
     else if (got->kind == HD)
-        receive_hd(payload, length - head, got);
-    else if (got->kind == MADI)
-        receive_madi(payload, length - head, got);
+        receive_hd(record + 2, length - 2, got);
     else
-        receive_control(payload, length - head, got);
-}
-
-/* The first that is good is told by its number, and the end tells how many there were; one that is damaged is told
-   alone. */
-static void pass_over(receiver *r, const received *got)
-{
-    if (got->number != LAMPCOIL_ACCEPTED)
-        tell("a control packet is damaged, number %u at %u: %s; it holds no sound and is passed over", got->number,
-             got->place, lampcoil_refusal_text(got->number));
-    else if (r->controls == 0)
-        tell("a control packet of group %u: it holds no sound and is passed over, as are others after it", got->group);
-    r->controls++;
+        receive_madi(record + 2, length - 2, got);
 }
 
 /* Silence for a record that was refused, as long as those that are accepted: before the first of them nobody can tell,
    so it waits. */
 static void lose(receiver *r, const received *got)
 {
-    tell_refused(got->number, got->place);
+    tell("refused, number %u at %u: %s", got->number, got->place, lampcoil_refusal_text(got->number));
     r->status = LOST;
     if (r->kind != NO_KIND) {
         put_silence(in_record[r->kind].frames, r->channels);
@@ -186,18 +153,6 @@ static void lose(receiver *r, const received *got)
     r->waiting++;
     if (r->likely == NO_KIND)
         r->likely = got->kind;
-}
-
-/* Records that are not of one sound; a packet alone has a group. */
-static void stop_at_another(const receiver *r, const received *got)
-{
-    char is[24] = "", was[24] = "";
-    if (got->group != 0)
-        snprintf(is, sizeof is, "group %u, ", got->group);
-    if (r->group != 0)
-        snprintf(was, sizeof was, "group %u, ", r->group);
-    STOP("%s, %s%u channels, after %s, %s%u channels: these are not of one sound", in_record[got->kind].name, is,
-         got->channels, in_record[r->kind].name, was, r->channels);
 }
 
 static void keep(receiver *r, const received *got)
@@ -210,7 +165,8 @@ static void keep(receiver *r, const received *got)
             put_silence(in_record[r->kind].frames, r->channels);
     }
     if (got->kind != r->kind || got->group != r->group || got->channels != r->channels)
-        stop_at_another(r, got);
+        STOP("kind %u, group %u, %u channels, after kind %u, group %u, %u channels", got->kind, got->group,
+             got->channels, r->kind, r->group, r->channels);
     if (got->faults != 0) {
         tell("subframes with odd parity: %u; their samples are kept", got->faults);
         r->status = LOST;
@@ -223,14 +179,14 @@ static void keep(receiver *r, const received *got)
 /* One record without its length, which is the answer; 0 beside `end` where there is none. */
 static size_t take_record(uint8_t *record, int *end)
 {
-    uint8_t head[LAMPCOIL_RECORD_LENGTH_OCTETS];
-    size_t got = take(head, sizeof head);
+    uint8_t head[4];
+    size_t got = take(head, 4);
     *end = got == 0;
     if (*end)
         return 0;
     uint32_t length = (uint32_t)head[0] << 24 | (uint32_t)head[1] << 16 | (uint32_t)head[2] << 8 | head[3];
-    if (got == 4 && length > LAMPCOIL_RECORD_MOST_LENGTH)
-        STOP("a length of %" PRIu32 ", above %u; it cannot be passed over", length, LAMPCOIL_RECORD_MOST_LENGTH);
+    if (got == 4 && length > MOST_RECORD)
+        STOP("a length of %" PRIu32 ", above %d; it cannot be passed over", length, MOST_RECORD);
     if (got < 4 || take(record, length) < length)
         STOP("cut by the end");
     return length;
@@ -238,7 +194,7 @@ static size_t take_record(uint8_t *record, int *end)
 
 int carry_back(void)
 {
-    static uint8_t record[LAMPCOIL_RECORD_MOST_LENGTH];
+    static uint8_t record[MOST_RECORD];
     static received got;
     receiver r = {0};
     for (;;) {
@@ -248,17 +204,12 @@ int carry_back(void)
         if (end)
             break;
         receive(record, length, &got);
-        if (got.kind == CONTROL)
-            pass_over(&r, &got);
-        else if (got.number == LAMPCOIL_ACCEPTED)
+        if (got.number == LAMPCOIL_ACCEPTED)
             keep(&r, &got);
         else
             lose(&r, &got);
     }
     record_number = 0;
-    tell_rest();
-    if (r.controls > 1)
-        tell("%" PRIu64 " control packets were passed over", r.controls);
     if (r.waiting != 0 && in_record[r.likely].channels == 0)
         tell("no record was accepted, so that the channels are not known: no silence was written");
     for (; r.waiting != 0; r.waiting--)

@@ -1,6 +1,6 @@
-/* What is written down with its answer: the eleven examples of the scope document, the published vectors, its list "By
-   test", and the counts that document 02 gives. Run over the library, and over the second program under the library's
-   names. Here bodies and status; each carrier has a file of its own. */
+/* What is written down with its answer: eleven examples worked out by hand, the published vectors, and counts that are
+   known. Run over the library, and over the second program under the library's names. Here bodies and status; each
+   carrier has a file of its own. */
 #include "listed.h"
 #include <stdio.h>
 #include <string.h>

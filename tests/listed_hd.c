@@ -38,7 +38,7 @@ static void test_packet(void)
     expect(lampcoil_hd_next_dbn(256).number == 2, "no DBN");
 }
 
-/* A control packet worked out by the tables of BT.1365, section 6; and document 02's refusals. */
+/* A control packet worked out by the tables of BT.1365, section 6; and what is refused of one. */
 static void test_control(void)
 {
     static const uint16_t worked[18] = {0x000, 0x3FF, 0x3FF, 0x2E2, 0x200, 0x10B, 0x12C, 0x20E, 0x107, 0x203, 0x200, 0x200,

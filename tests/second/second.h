@@ -1,4 +1,4 @@
-/* The second program: the same operations as include/lampcoil.h, written a second time from the scope document alone, bit by bit
+/* The second program: the same operations as include/lampcoil.h, written a second time from the rules alone, bit by bit
    and as plainly as possible, so that the library can be held against it. It shares no table, no trick and no line with
    the library. Slow on purpose.
    Build: cc -std=c11 yours.c second*.c */

@@ -1,4 +1,4 @@
-/* The second program's level sheet: sheets of two channels, ten numbers each, as document 02 lists them. */
+/* The second program's level sheet: sheets of two channels, ten numbers each, in the order of the header. */
 #include "second.h"
 
 enum { LINES = 10, SHEET = 20, SAMPLES = 384, SIDE = 192, FRAMES = 192 };

@@ -1,4 +1,4 @@
-/* The second program's replay: what document 02 asks of a night's packets, record by record. */
+/* The second program's replay: what is asked of a night's packets, record by record. */
 #include "second.h"
 #include <string.h>
 

@@ -1,5 +1,5 @@
-/* What the trial program trial_carriers must print, by the second program: document 01's list "By test", published
-   vectors, and carriers that are changed in one place, each place in its turn. `make expected` writes its output. */
+/* What the trial program trial_carriers must print, by the second program: calls with known answers, published vectors,
+   and carriers that are changed in one place, each place in its turn. `make expected` writes its output. */
 #include "second.h"
 #include <stdio.h>
 #include <string.h>
