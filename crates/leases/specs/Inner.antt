@@ -8,8 +8,8 @@ zeroed_from at xs = take at xs ++ replicate (length xs - at) 0
 
 -- of the table at entry: r slots are leased, and stand in front of the table at exit; the moves stand in front of their
 -- list
-pub record Moved (at_entry_lem at_exit moves-at-exit : List ℕ) (r : ℕ) : Type 0 where
-  pub as_many : r ≡ length (leased at_entry_lem)
+pub record Moved (at_entry at_exit moves_at_exit : List ℕ) (r : ℕ) : Type 0 where
+  pub as_many : r ≡ length (leased at_entry)
   pub few : r ≤ 64
-  pub in-front : take r at_exit ≡ leased at_entry_lem
-  pub told : take (2 * r) moves-at-exit ≡ moves at_entry_lem
+  pub in-front : take r at_exit ≡ leased at_entry
+  pub told : take (2 * r) moves_at_exit ≡ moves at_entry

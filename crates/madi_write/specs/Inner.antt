@@ -30,13 +30,13 @@ Levels x r = (y : ℕ) → y < 2 ^ 64 → bit_xor y (y / 2) ≡ x → r ≡ y
 
 -- after a store of n octets of y from j on, a list that was new up to j, and old from there, is new up to j + n
 abbrev pub Stored : ℕ → ℕ → ℕ → List ℕ → List ℕ → Type 0
-Stored j y n at_entry_lem at_exit =
+Stored j y n at_entry at_exit =
     (new old : List ℕ) → j + n ≤ length new → j + n ≤ length old → ((i : ℕ) → i < n → get_or new (j + i) 0 ≡ y / 2 ^ (32 - 8 * i) % 256)
-    → at_entry_lem ≡ take j new ++ drop j old → at_exit ≡ take (j + n) new ++ drop (j + n) old
+    → at_entry ≡ take j new ++ drop j old → at_exit ≡ take (j + n) new ++ drop (j + n) old
 
 -- 40 bits x after a level are laid as block b, and r is the level that they leave
 abbrev pub Laid : ℕ → ℕ → ℕ → ℕ → List ℕ → List ℕ → Type 0
-Laid b last x r at_entry_lem at_exit = (y : ℕ) × Levels (last * 2 ^ 40 + x) y × (r ≡ y % 2) × Stored (5 * b) y 5 at_entry_lem at_exit
+Laid b last x r at_entry at_exit = (y : ℕ) × Levels (last * 2 ^ 40 + x) y × (r ≡ y % 2) × Stored (5 * b) y 5 at_entry at_exit
 
 -- the level before each bit of the frame, from the first on
 abbrev pub sent_levels : ℕ → List ℕ → List ℕ → ℕ → Row

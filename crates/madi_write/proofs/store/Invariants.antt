@@ -8,9 +8,9 @@ use Rattle.madi_write.proofs.store.Given as goal
 
 -- the octets before j + i are new
 abbrev pub Grown : ℕ → ℕ → ℕ → ℕ → List ℕ → List ℕ → Type 0
-Grown j y n i at_entry_lem line =
+Grown j y n i at_entry line =
     (new old : List ℕ) → j + n ≤ length new → j + n ≤ length old → ((i : ℕ) → i < n → get_or new (j + i) 0 ≡ y / 2 ^ (32 - 8 * i) % 256)
-    → at_entry_lem ≡ over j new old → line ≡ over (j + i) new old
+    → at_entry ≡ over j new old → line ≡ over (j + i) new old
 
 abbrev pub invariant-loop-i : goal.invariant-loop-i
 invariant-loop-i l = (l.i ≤ l.n) × (length l.line ≡ length l.initial.line) × Grown l.j l.y l.n l.i l.initial.line l.line
