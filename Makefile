@@ -20,7 +20,7 @@
 # make compare_own compares that library with the second program (CALLS=n of each group)
 # make bench       benchmarks against C by hand; writes docs/FIGURES.md
 # make stack       the stack depth of a call of each entry
-# make counts      after make bench: the x86-64 instructions of a call
+# make counts      the x86-64 instructions of a call of each row of make bench
 # make model       cycles of the loops of the writers, the AES3 reader and the level sheet, by models of two processors
 # make expected    regenerates the expected output of tests from the second program
 # make mutants     mutation test of the comparing program, on mutants of the second program
@@ -375,14 +375,14 @@ bench: $(ARCHIVE) program
 	cat docs/FIGURES.md
 
 # The C of the benchmarks, compiled as for make bench.
-build/c_objects: $(ARCHIVE)
+build/c_objects: $(ARCHIVE) bench/bench.c bench/bench.h bench/hand.h bench/rows.c $(HAND) $(FORMED)
 	@rm -rf $@ && mkdir -p $@
 	for f in bench/bench.c bench/rows.c $(HAND) $(FORMED); do \
 	    bench/kit-cc -std=c11 -O3 $(INCLUDES) -c -o $@/$${f##*/}.o $$f || exit 1; done
 
 counts: build/c_objects
 	$(X86) cc -o build/bench_counted build/c_objects/*.o $(ARCHIVE)
-	bench/instructions build/bench_counted docs/FIGURES.md
+	bench/instructions build/bench_counted
 
 stack: $(ARCHIVE)
 	@mkdir -p build

@@ -95,9 +95,21 @@ static int call_only(size_t row, const char *which, int times)
     return 0;
 }
 
-/* With no arguments the table; with a row's number, `library`, `hand` or `formed` and a count, so many calls. */
+/* The rows in their order: the name, and after a bar whether there is C with the named forms. */
+static void list_rows(void)
+{
+    for (size_t k = 0; k < row_count; k++)
+        printf("%s|%s\n", all_rows[k].name, all_rows[k].formed != NULL ? "formed" : "");
+}
+
+/* With no arguments the table; with `rows` their names; with a row's number, `library`, `hand` or `formed` and a count, so
+   many calls. */
 int main(int argc, char **argv)
 {
+    if (argc == 2 && strcmp(argv[1], "rows") == 0) {
+        list_rows();
+        return ferror(stdout) || fflush(stdout) != 0;
+    }
     prepare_rows();
     if (argc == 4)
         return call_only((size_t)strtoul(argv[1], NULL, 10), argv[2], atoi(argv[3]));

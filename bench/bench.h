@@ -8,8 +8,8 @@
    its whole answer stored at `to`, whose size is returned. */
 typedef struct { uint32_t (*timed)(void); size_t (*whole)(void *to); } program;
 
-/* A row of the table: the operation in the library, in C by hand and, where the library is bound to a form of it, in C
-   bound to that form; the function that prepares its input; and the buffers that a call fills. */
+/* A row of the table: the operation in the library, in C by hand and, where a form of it is named, in C bound to that
+   form; the function that prepares its input; and the buffers that a call fills. */
 typedef struct {
     const char *name;
     const program *library, *hand, *formed;

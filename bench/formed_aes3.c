@@ -1,3 +1,3 @@
-/* AES3 by hand with the forms that the library is bound to (hand.h). */
+/* AES3 by hand with the named forms (hand.h). */
 #define FORMED
 #include "hand_aes3.c"

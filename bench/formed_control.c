@@ -1,3 +1,3 @@
-/* HD control packets by hand with the forms that the library is bound to (hand.h). */
+/* HD control packets by hand with the named forms (hand.h). */
 #define FORMED
 #include "hand_control.c"

@@ -1,3 +1,3 @@
-/* HD packets by hand with the forms that the library is bound to (hand.h). */
+/* HD packets by hand with the named forms (hand.h). */
 #define FORMED
 #include "hand_hd.c"

@@ -1,3 +1,3 @@
-/* The level sheet by hand with the forms that the library is bound to (hand.h). */
+/* The level sheet by hand with the named forms (hand.h). */
 #define FORMED
 #include "hand_levels.c"

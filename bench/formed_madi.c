@@ -1,3 +1,3 @@
-/* MADI by hand with the forms that the library is bound to (hand.h). */
+/* MADI by hand with the named forms (hand.h). */
 #define FORMED
 #include "hand_madi.c"

@@ -1,3 +1,3 @@
-/* The patch by hand with the forms that the library is bound to (hand.h). */
+/* The patch by hand with the named forms (hand.h). */
 #define FORMED
 #include "hand_patch.c"

@@ -7,9 +7,10 @@
 #include "lampcoil.h"
 #include <string.h>
 
-/* Where FORMED is defined, before this is read, the files take the forms that the library is bound to in place of tables
-   that are wider: the CRCC fed one bit at a time, P and b8 by the count of ones, 256 biphase codings, the symbol reader
-   with three answers. What they define then has the name formed_... */
+/* Where FORMED is defined, before this is read, the files take the forms that the papers name in place of tables that are
+   wider: the CRCC fed one bit at a time, P and b8 by the count of ones, 256 biphase codings, the symbol reader with three
+   answers. (The library takes the CRCC of a block octet by octet, from a table.) What they define then has the name
+   formed_... */
 #ifdef FORMED
 #define hand_init_aes3 formed_init_aes3
 #define hand_init_madi formed_init_madi

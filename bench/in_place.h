@@ -1,6 +1,6 @@
 /* The hand-written functions in the place of the library's, for the comparing program (cc -DIN_PLACE='"in_place.h"').
    Every function that a row of the figures measures stands here; BY_CANDIDATE chooses between the two searches for a
-   block start, BY_FORMS the functions with the forms that the library is bound to. */
+   block start, BY_FORMS the functions with the named forms. */
 #ifndef IN_PLACE_H
 #define IN_PLACE_H
 

@@ -38,7 +38,7 @@ static int64_t sheet[20], back_sheet[20];
     PROGRAM(library_##name, type, lampcoil_##entry arguments)                                                          \
     PROGRAM(by_hand_##name, type, hand_##entry arguments)
 
-/* With them the C that takes the forms that the library is bound to. */
+/* With them the C that takes the named forms. */
 #define ALL(name, type, entry, arguments)                                                                              \
     BOTH(name, type, entry, arguments)                                                                                 \
     PROGRAM(by_forms_##name, type, formed_##entry arguments)
