@@ -8,8 +8,9 @@ use lib.ListN.{length}
 use Rattle.bits.specs.Row.{Row}
 use Rattle.bits.specs.Pack.{symbols}
 use Rattle.answer.specs.Answer.{Answer, Answer.accepted, Answer.refused}
-use Rattle.answer.specs.declared.NumberAnswer.{NumberAnswer}
-use Rattle.answer.proofs.Said.{number-said-once}
+use Rattle.std.specs.Prelude.{Result}
+use Rattle.answer.specs.declared.Refusal.{Refusal}
+use Rattle.answer.proofs.Said.{said-once}
 use Rattle.aes3_hunt.specs.Hunt.{hunted, total, reached, compared, Right}
 use Rattle.aes3_hunt.specs.Hunt.Right.{smallest, none, too_long}
 use Rattle.aes3_hunt.specs.Said.{hunt_said}
@@ -64,6 +65,6 @@ compared-short line h = omega (arith, compared-most line)
 
 pub hunt-said-once : (a b : HuntAnswer) → hunt_said a ≡ hunt_said b → a ≡ b
 hunt-said-once a b e =
-    let start : a.start ≡ b.start = number-said-once a.start b.start (ap (λ (s : Answer ℕ × ℕ). s.0) e) in
+    let start : a.start ≡ b.start = said-once a.start b.start (ap (λ (s : Answer ℕ × ℕ). s.0) e) in
     let count : a.compared ≡ b.compared = ap (λ (s : Answer ℕ × ℕ). s.1) e in
-    ap₂ (λ (x : NumberAnswer) (n : ℕ). record { start = x; compared = n }) start count
+    ap₂ (λ (x : Result ℕ Refusal) (n : ℕ). record { start = x; compared = n }) start count

@@ -7,19 +7,19 @@ ghost use Rattle.std.specs.Prelude.{◌≡◌, ◌+◌, ◌*◌, ◌^◌, ◌≤
 ghost use Rattle.bits.specs.Window.{window};
 ghost use Rattle.bits.specs.Pack.{symbols};
 ghost use Rattle.answer.specs.Answer.{Answer.accepted, Answer.refused, verdict, rewritten};
-ghost use Rattle.answer.specs.Said.{verdict_said};
+ghost use Rattle.answer.specs.Said.{number_of, place_of, said};
 ghost use Rattle.aes3_hunt.specs.Align.{aligned};
 ghost use Rattle.aes3_hunt.specs.Hunt.{bounded_hunt};
 ghost use Rattle.aes3_hunt.specs.Inner.{mismatches};
 ghost use Rattle.aes3_hunt.specs.Said.{hunt_said};
 
-use answer::{NumberAnswer, Verdict};
+use answer::Refusal;
 use line::load;
 
 // Where a block starts, or a refusal; and how many symbols were compared, found or not.
-#[derive(Clone, Copy)]
+#[derive(Clone, Copy, Debug, PartialEq, Eq)]
 pub struct HuntAnswer {
-    pub start: NumberAnswer,
+    pub start: Result<u32, Refusal>,
     pub compared: u32,
 }
 
@@ -32,7 +32,7 @@ fn nine(line: &[u8], t: usize) -> u32
     ensures { result ≡ window (symbols line.now) t 9 }
 {
     let j = t / 8;
-    ((line[j] as u32 * 256 + line[j + 1] as u32) >> (7 - t % 8)) % 512
+    (u32::from(u16::from_be_bytes([line[j], line[j + 1]])) >> (7 - t % 8)) % 512
 }
 
 // A candidate's sixteen symbols against those required, Z and Y as the symbol before each has it: 1 where one differs,
@@ -49,20 +49,13 @@ fn compare(line: &[u8], p: usize) -> u32
 }
 
 // A refusal, after so many symbols were compared.
-fn refused(number: u32, compared: u32) -> HuntAnswer
-    ensures { hunt_said result ≡ (refused number 0, compared) }
+fn refused(refusal: Refusal, compared: u32) -> HuntAnswer
+    ensures { hunt_said result ≡ (refused (number_of refusal) (place_of refusal), compared) }
 {
     HuntAnswer {
-        start: NumberAnswer::Refused { number, place: 0 },
+        start: Err(refusal),
         compared,
     }
-}
-
-// More than 8,192 octets, of which none is looked at.
-fn too_long() -> HuntAnswer
-    ensures { hunt_said result ≡ (refused 1 0, 0) }
-{
-    refused(1, 0)
 }
 
 // A block that starts at p, whose sixteen symbols were compared after so many others.
@@ -71,7 +64,7 @@ fn found(p: usize, before: u32) -> HuntAnswer
     ensures { hunt_said result ≡ (accepted p, before + 16) }
 {
     HuntAnswer {
-        start: NumberAnswer::Number(p as u32),
+        start: Ok(p as u32),
         compared: before + 16,
     }
 }
@@ -82,11 +75,11 @@ pub fn find_start(line: &[u8]) -> HuntAnswer
     ensures { hunt_said result ≡ bounded_hunt line.now }
 {
     if 8192 < line.len() {
-        return too_long();
+        return refused(Refusal::Length, 0);
     }
     let t = line.len() * 8;
     if t < 72 {
-        return refused(17, 0);
+        return refused(Refusal::NoStart, 0);
     }
     let end = t - 71;
     let mut compared: u32 = 0;
@@ -100,38 +93,27 @@ pub fn find_start(line: &[u8]) -> HuntAnswer
         }
         return found(p, compared);
     }
-    refused(17, compared)
+    refused(Refusal::NoStart, compared)
 }
 
 // Copies the 3,072 octets of symbols from a position on: refusal 1 for another room than that and for a line of more
 // than 8,192 octets, 2 where fewer symbols are left. A refusal leaves the block as it was.
-pub fn align(line: &[u8], position: u32, block: &mut [u8]) -> Verdict
-    ensures result_value { verdict_said result ≡ verdict (aligned line.now position (length block.old)) }
+pub fn align(line: &[u8], position: u32, block: &mut [u8]) -> Result<(), Refusal>
+    ensures result_value { said result ≡ verdict (aligned line.now position (length block.old)) }
     ensures block_after { block.new ≡ rewritten (aligned line.now position (length block.old)) block.old }
 {
     if block.len() != 3072 {
-        return Verdict::Refused {
-            number: 1,
-            place: 0,
-        };
+        return Err(Refusal::Length);
     }
     if 8192 < line.len() {
-        return Verdict::Refused {
-            number: 1,
-            place: 0,
-        };
+        return Err(Refusal::Length);
     }
     let from = position as usize;
     if line.len() * 8 < from + 24576 {
-        return Verdict::Refused {
-            number: 2,
-            place: 0,
-        };
+        return Err(Refusal::Range);
     }
-    let mut j = 0;
-    while j < 3072 {
-        block[j] = load(line, from + j * 8, 8) as u8;
-        j += 1;
+    for (j, octet) in block.iter_mut().enumerate() {
+        *octet = load(line, from + j * 8, 8) as u8;
     }
-    Verdict::Accepted
+    Ok(())
 }

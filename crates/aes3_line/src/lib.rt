@@ -33,5 +33,5 @@ pub fn after_level(level: u32, w: u64) -> u64
     if level % 2 == 0 {
         return w;
     }
-    0xFFFF_FFFF_FFFF_FFFF - w
+    !w
 }

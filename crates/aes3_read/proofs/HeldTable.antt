@@ -1,27 +1,27 @@
--- The table of the four bits that an octet's slots hold, as the reader uses it. Assumes nothing.
-use mathlib.Core.Path.{◌≡◌, ap, ◌∙◌}
+-- The table of the four bits that an octet's slots hold, by one test that antt computes over its entries. Assumes nothing.
+use mathlib.Core.Path.{◌≡◌, refl, sym, ap, ◌∙◌}
+use mathlib.Core.Bool.{xor}
 use mathlib.Core.List.{List}
 use Prim.Native.Nat.{ℕ, ◌<◌}
-use lib.ListN.{length, get_or}
-use Rattle.bits.specs.Row.{big_bits, little}
-use Rattle.bits.proofs.Lists.{length-listed, get_or-listed}
-use Rattle.line.specs.Biphase.{held}
-use Rattle.line.proofs.BiphaseOctets.{nibble, nibble-lt}
-use Rattle.line.proofs.BiphaseTables.{helds, helds-right}
+use lib.ListN.{get_or}
+use Rattle.bits.specs.Row.{little}
+use Rattle.bits.specs.Listed.{listed}
+use Rattle.bits.proofs.Lists.{get_or-listed, listed-all}
+use Rattle.line.proofs.BiphaseOctets.{nibble, by_slots, slots-held, nibble-lt}
 use Rattle.aes3_read.specs.Inner.{held_table}
+use Rattle.aes3_read.specs.declared.tables.TheConstants.{HELD}
 
-pub table-right : helds ≡ held_table
-unfolding held_table
-table-right = helds-right
+entries-right : HELD ≡ listed 0 256 by_slots
+unfolding listed little xor
+entries-right = refl
 
-pub length-helds : length held_table ≡ 256
-unfolding held_table
-length-helds = length-listed 0 256 (λ o. little (held (big_bits 8 o)))
+module _ (o : ℕ) (h : o < 256) where
+  pub held_at : get_or HELD o 0 ≡ nibble o
+  held_at = ap (λ (xs : List ℕ). get_or xs o 0) entries-right ∙ get_or-listed 256 by_slots o 0 h ∙ sym (slots-held o)
 
-module _ (table : List ℕ) (t : table ≡ held_table) (o : ℕ) (h : o < 256) where
-  pub held_at : get_or table o 0 ≡ nibble o
-  unfolding held_table
-  held_at = ap (λ (xs : List ℕ). get_or xs o 0) t ∙ get_or-listed 256 (λ o. little (held (big_bits 8 o))) o 0 h
-
-  pub held-lt : get_or table o 0 < 16
+  pub held-lt : get_or HELD o 0 < 16
   held-lt = rw held_at (nibble-lt o)
+
+pub table-right : HELD ≡ held_table
+unfolding held_table
+table-right = sym (listed-all 256 nibble HELD 0 refl (λ o h. sym (held_at o h)))

@@ -1,11 +1,11 @@
 -- Clauses that only inner functions need. Assumes nothing.
-use Rattle.std.specs.Prelude.{ℕ, ◌+◌, ◌*◌, ◌/◌, ◌^◌, List}
+use Rattle.std.specs.Prelude.{ℕ, ◌+◌, ◌*◌, ◌/◌, ◌^◌, List, Result}
 use Rattle.std.specs.Int.Bits.{bit_xor}
 use Rattle.bits.specs.Row.{big_bits, little}
 use Rattle.bits.specs.Listed.{listed}
 use Rattle.answer.specs.Answer.{Answer, mapped}
-use Rattle.answer.specs.Said.{verdict_said}
-use Rattle.answer.specs.declared.Verdict.{Verdict}
+use Rattle.answer.specs.Said.{said}
+use Rattle.answer.specs.declared.Refusal.{Refusal}
 use Rattle.line.specs.Biphase.{held}
 
 -- the four bits that the slots of each octet hold, the first lowest
@@ -17,5 +17,5 @@ abbrev pub due_changes : ℕ → ℕ
 due_changes m = bit_xor m (m / 2) * 2 ^ 56 + 0xAAAAAAAAAAAAAA
 
 -- what a loop over the subframes answered, with the bodies that it left in a buffer
-abbrev pub decoded : Verdict → List ℕ → Answer (List ℕ)
-decoded v bodies = mapped (λ u. bodies) (verdict_said v)
+abbrev pub decoded : Result (Unit {0}) Refusal → List ℕ → Answer (List ℕ)
+decoded answer bodies = mapped (λ u. bodies) (said answer)

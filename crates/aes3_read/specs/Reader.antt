@@ -1,15 +1,15 @@
 -- What reading a block means: 3,072 octets as 384 samples and a side table. Assumes nothing.
-use Rattle.std.specs.Prelude.{ℕ, List, [], ◌∷◌, eqb, length}
+use Rattle.std.specs.Prelude.{ℕ, List, [], ◌∷◌, eqb, length, Result}
 use Rattle.bits.specs.Row.{digit}
-use Rattle.answer.specs.Answer.{Answer, Answer.accepted, Answer.refused}
+use Rattle.answer.specs.Answer.{Answer, mapped}
 use Rattle.answer.specs.Demand.{Demand, Demand.asks, provided}
 use Rattle.block.specs.Side.{side_length}
 use Rattle.block.specs.Block.{side_of}
 use Rattle.block.specs.Check.{status_right}
 use Rattle.aes3_line.specs.Line.{bodies_on}
-use Rattle.aes3_read.specs.declared.ReadAnswer.{ReadAnswer}
-use Rattle.aes3_read.specs.declared.ReadAnswer.TheVariants.{Read}
-use Rattle.aes3_read.specs.declared.ReadAnswer.TheVariants.{Refused as NotRead}
+use Rattle.answer.specs.Said.{said}
+use Rattle.answer.specs.declared.Refusal.{Refusal}
+use Rattle.aes3_read.specs.declared.Crccs.{Crccs}
 
 -- the lengths of line, samples and side table (1), then subframe by subframe 7, 8; on acceptance the bodies, whose
 -- samples and side table fill the buffers
@@ -23,7 +23,6 @@ read_answer line samples side = provided (read_demands line samples side) (bodie
 abbrev pub crccs : List ℕ → ℕ × ℕ
 crccs bodies = (digit (status_right (side_of bodies) 0), digit (status_right (side_of bodies) 1))
 
--- what the enum says
-abbrev pub block_said : ReadAnswer → Answer (ℕ × ℕ)
-block_said (Read a b) = accepted (a, b)
-block_said (NotRead n p) = refused n p
+-- what the answer says
+abbrev pub block_said : Result Crccs Refusal → Answer (ℕ × ℕ)
+block_said r = mapped (λ c. (digit c.a, digit c.b)) (said r)

@@ -1,7 +1,7 @@
 // The table of the reader: four slots at a time.
 
 // Entry o: the four bits that the slots of the octet o hold, the first lowest.
-pub const HELD: [u8; 256] = [
+pub static HELD: [u8; 256] = [
     0, 8, 8, 0, 4, 12, 12, 4, 4, 12, 12, 4, 0, 8, 8, 0, 2, 10, 10, 2, 6, 14, 14, 6, 6, 14, 14, 6,
     2, 10, 10, 2, 2, 10, 10, 2, 6, 14, 14, 6, 6, 14, 14, 6, 2, 10, 10, 2, 0, 8, 8, 0, 4, 12, 12, 4,
     4, 12, 12, 4, 0, 8, 8, 0, 1, 9, 9, 1, 5, 13, 13, 5, 5, 13, 13, 5, 1, 9, 9, 1, 3, 11, 11, 3, 7,

@@ -6,9 +6,10 @@ use Prim.Native.Nat.{ℕ, suc, ◌+◌, ◌-◌, ◌*◌, ◌/◌, ◌%◌, ◌^
 use native.Mathlib.Omega.{arith}
 use native.Mathlib.Numerals.{add-one}
 use lib.IntN.{ℤ, pos}
-use lib.ListN.{length, get_or}
+use lib.ListN.{get_or}
 use Rattle.bits.specs.Row.{bit}
-use Rattle.bits.proofs.Lists.{length-listed, get_or-listed}
+use Rattle.bits.specs.Listed.{listed}
+use Rattle.bits.proofs.Lists.{get_or-listed}
 use Rattle.subframe.specs.Signed.{in_range, code_of}
 use Rattle.subframe.specs.Body.{parity_of}
 use Rattle.subframe.proofs.BodyLaws.{body-laid}
@@ -16,12 +17,14 @@ use Rattle.block.specs.Side.{columns, column_length}
 use Rattle.block.specs.Block.{side_at, subframe_body}
 use Rattle.block.proofs.BlockLaws.{side-digit, side-octet, body-in}
 use Rattle.aes3_write.specs.Inner.{body_with, flags, flags_from, spread, spread_table, octet_in, eight_flags}
+use Rattle.aes3_write.specs.declared.tables.TheConstants.{SPREAD}
 
 -- ---- an octet's bits apart
 
-pub length-spreads : length spread_table ≡ 256
-unfolding spread_table
-length-spreads = length-listed 0 256 spread
+-- one test, which antt computes over all 256 entries
+pub spreads-right : SPREAD ≡ spread_table
+unfolding spread_table spread listed
+spreads-right = refl
 
 pub spread_at : (o : ℕ) → o < 256 → get_or spread_table o 0 ≡ spread o
 unfolding spread_table

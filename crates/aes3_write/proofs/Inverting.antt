@@ -2,30 +2,22 @@
 -- nothing.
 use mathlib.Core.Path.{◌≡◌, refl, sym, ap, ap₂, ◌∙◌}
 use mathlib.Core.Bool.{Bool, true, false, xor}
-use mathlib.Core.List.{List, [], ◌∷◌}
 use Prim.Native.Nat.{ℕ, ◌+◌, ◌*◌, ◌/◌, ◌%◌, ◌^◌, ◌<◌}
 use native.Mathlib.Omega.{arith}
 use lib.Bits.{bit_and, bit_xor, and_block, and_mask, xor_block, xor_zero_r, xor_shr}
-use lib.ListN.{length, get_or}
+use lib.ListN.{get_or}
 use Rattle.bits.specs.Row.{odd}
 use Rattle.bits.specs.Listed.{listed}
 use Rattle.bits.proofs.Digits.{digit-cases, odd-mod}
-use Rattle.bits.proofs.Lists.{length-listed}
 use Rattle.bits.proofs.XorRows.{odd-xor}
 use Rattle.aes3_write.specs.Inner.{inverter, inverters, inverters_table}
+use Rattle.aes3_write.specs.declared.tables.TheConstants.{INVERTERS}
 
 -- ---- the table
 
-unfoldable pub invertings : List ℕ
-invertings = 0 ∷ 0xFF ∷ 0xFFFFFF ∷ 0xFFFF00 ∷ 0xFFFFFFFFFF ∷ 0xFFFFFFFF00 ∷ 0xFFFF000000 ∷ 0xFFFF0000FF ∷ []
-
-pub invertings-right : invertings ≡ inverters_table
-unfolding invertings inverters_table inverters listed xor
-invertings-right = refl
-
-pub length-inverters : length inverters_table ≡ 8
-unfolding inverters_table
-length-inverters = length-listed 0 8 (λ x. inverters (odd (x / 4)) (odd (x / 2)) (odd x))
+pub inverters-right : INVERTERS ≡ inverters_table
+unfolding inverters_table inverters listed xor
+inverters-right = refl
 
 at-three : (x y z : ℕ) → x < 2 → y < 2 → z < 2 → get_or inverters_table (x * 4 + y * 2 + z) 0 ≡ inverters (odd x) (odd y) (odd z)
 unfolding inverters_table listed

@@ -1,15 +1,16 @@
 -- A subframe as the writer goes: a body behind the octet of a preamble, and its symbols as octets. Assumes nothing.
 use mathlib.Core.Path.{◌≡◌, refl, sym, ap, ◌∙◌}
 use mathlib.Core.Bool.{Bool, false}
-use mathlib.Core.List.{List, [], ◌∷◌, ◌++◌}
+use mathlib.Core.List.{[], ◌∷◌, ◌++◌}
 use Prim.Native.Nat.{ℕ, ◌+◌, ◌-◌, ◌*◌, ◌/◌, ◌%◌, ◌^◌, ◌≤◌, ◌<◌}
 use native.Mathlib.Nat.{zero-add, add_comm, mod-eq_of_lt}
 use native.Mathlib.Omega.{arith}
 use lib.Bits.{bit_xor, xor_zero_r}
 use lib.Count.{ones, ones_cat}
-use lib.ListN.{length, get_or, set, length-append}
+use lib.ListN.{length, get_or, length-append}
 use Rattle.bits.specs.Row.{Row, odd, bits, big_bits, big}
 use Rattle.bits.specs.Window.{window}
+use Rattle.std.specs.Int.{w64, to_be_bytes}
 use Rattle.bits.specs.Pack.{pack, octets}
 use Rattle.bits.proofs.Rows.{length-bits, length-big_bits, bits-mod, big_lt, big-append, big-big_bits}
 use Rattle.bits.proofs.Windows.{part-all, part-drop, window-inside}
@@ -150,20 +151,6 @@ pub word-opened : (m : ℕ) (l : Bool) (b : ℕ) → m < 256 → big_bits 64 (wo
 unfolding opened word_after
 word-opened m l b h = rw (← big-opened m b h) (rw (after-0 (plain m b)) (word_after_lem l (plain m b) (length-plain m b)))
 
--- eight octets laid one after the other
-pub laid : (os : List ℕ) (o0 o1 o2 o3 o4 o5 o6 o7 : ℕ) → length os ≡ 8
-    → set (set (set (set (set (set (set (set os 0 o0) 1 o1) 2 o2) 3 o3) 4 o4) 5 o5) 6 o6) 7 o7 ≡ o0 ∷ o1 ∷ o2 ∷ o3 ∷ o4 ∷ o5 ∷ o6 ∷ o7 ∷ []
-laid (p ∷ q ∷ r ∷ s ∷ t ∷ u ∷ v ∷ w ∷ []) o0 o1 o2 o3 o4 o5 o6 o7 h = refl
-laid (p ∷ q ∷ r ∷ s ∷ t ∷ u ∷ v ∷ w ∷ z ∷ os) o0 o1 o2 o3 o4 o5 o6 o7 h = absurd (omega arith)
-laid [] o0 o1 o2 o3 o4 o5 o6 o7 h = absurd (omega arith)
-laid (p ∷ []) o0 o1 o2 o3 o4 o5 o6 o7 h = absurd (omega arith)
-laid (p ∷ q ∷ []) o0 o1 o2 o3 o4 o5 o6 o7 h = absurd (omega arith)
-laid (p ∷ q ∷ r ∷ []) o0 o1 o2 o3 o4 o5 o6 o7 h = absurd (omega arith)
-laid (p ∷ q ∷ r ∷ s ∷ []) o0 o1 o2 o3 o4 o5 o6 o7 h = absurd (omega arith)
-laid (p ∷ q ∷ r ∷ s ∷ t ∷ []) o0 o1 o2 o3 o4 o5 o6 o7 h = absurd (omega arith)
-laid (p ∷ q ∷ r ∷ s ∷ t ∷ u ∷ []) o0 o1 o2 o3 o4 o5 o6 o7 h = absurd (omega arith)
-laid (p ∷ q ∷ r ∷ s ∷ t ∷ u ∷ v ∷ []) o0 o1 o2 o3 o4 o5 o6 o7 h = absurd (omega arith)
-
 -- the octets of a word
 module _ (w : ℕ) (h : w < 2 ^ 64) where
   abbrev row : Row
@@ -181,16 +168,11 @@ module _ (w : ℕ) (h : w < 2 ^ 64) where
   unfolding pack window
   windows = simp part-drop
 
-  pub word-laid : (os : List ℕ) → length os ≡ 8
-      → set (set (set (set (set (set (set (set os 0 (w / 72057594037927936)) 1 (w / 281474976710656 % 256)) 2 (w / 1099511627776 % 256)) 3 (w / 4294967296 % 256)) 4 (w / 16777216 % 256)) 5 (w / 65536 % 256)) 6 (w / 256 % 256)) 7 (w % 256)
-      ≡ octets 8 row
-  word-laid os n =
-      let first : w / 72057594037927936 ≡ w / 72057594037927936 % 256 = omega arith in
+  pub word-octets : to_be_bytes w64 w ≡ octets 8 row
+  word-octets =
       let last : w % 256 ≡ w / 1 % 256 = omega arith in
-      laid os (w / 72057594037927936) (w / 281474976710656 % 256) (w / 1099511627776 % 256) (w / 4294967296 % 256) (w / 16777216 % 256) (w / 65536 % 256)
-      (w / 256 % 256) (w % 256) n
-      ∙ rw (
-        first ∙ octet 0 (omega arith),
+      rw (
+        octet 0 (omega arith),
         octet 8 (omega arith),
         octet 16 (omega arith),
         octet 24 (omega arith),

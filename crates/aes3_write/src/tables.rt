@@ -1,7 +1,7 @@
 // The tables of the writer: what inverts a body's symbols, and the flags of eight frames at once.
 
 // Entry x: the eight bits of x at weights 1, 2^8, 2^16 and so on.
-pub const SPREAD: [u64; 256] = [
+pub static SPREAD: [u64; 256] = [
     0,
     1,
     0x100,
@@ -262,7 +262,7 @@ pub const SPREAD: [u64; 256] = [
 
 // Entry x: ones where the symbols behind sixteen, 32 and 48 of 56 are inverted, where bits 2, 1 and 0 of x say that the
 // entry before them leaves level 1 by itself.
-pub const INVERTERS: [u64; 8] = [
+pub static INVERTERS: [u64; 8] = [
     0,
     0xFF,
     0xFF_FFFF,

@@ -1,21 +1,23 @@
 -- DID and group, of any list of DIDs: each names the other; and what a head that is accepted says. Assumes nothing.
 use mathlib.Core.Path.{◌≡◌, refl, sym, ap, ◌∙◌}
-use mathlib.Core.Bool.{true, false}
-use mathlib.Core.List.{List, [], ◌∷◌}
+use mathlib.Core.Bool.{Bool, true, false}
+use mathlib.Core.List.{List, ◌∷◌}
 use Prim.Native.Nat.{ℕ, zero, suc, ◌+◌, ◌-◌, ◌*◌, ◌%◌, ◌^◌, ◌≤◌, ◌<◌}
 use native.Mathlib.Omega.{arith}
-use borrow.Author.Tests.{eqb-true, le-leb}
+use borrow.Author.Tests.{eqb-true, ne_eqb, le-leb}
 use lib.Count.{ones}
 use lib.Dec.{T, eqb, leb}
 use lib.ListN.{length, get_or}
+use Rattle.std.specs.Prelude.{Option, Some, None}
+use Rattle.bits.specs.Pick.{first}
+use Rattle.bits.proofs.Firsts.{first-map}
 use Rattle.bits.proofs.Tests.{no-yes}
 use Rattle.bits.proofs.Every.{every, agree}
 use Rattle.answer.specs.Answer.{Answer.accepted, Answer.refused}
-use Rattle.answer.specs.Demand.{Demand.asks, AllMet, ◌&◌, Stops}
-use Rattle.answer.specs.Demand.Stops.{fails, later}
-use Rattle.answer.proofs.Chains.{search-cases, not-both, passing, stopped, met, stops, beyond}
+use Rattle.answer.specs.Demand.{Demand.asks, AllMet, Stops}
+use Rattle.answer.proofs.Chains.{search-cases, met, stops, beyond}
 use Rattle.anc.specs.Word.{word_of}
-use Rattle.anc.specs.Head.{did_in, group_in, head_in, head_demands, head_answer}
+use Rattle.anc.specs.Head.{did_in, group_in, some_group, head_in, head_demands, head_answer}
 use Rattle.anc.proofs.WordLaws.{word-in-full}
 
 -- a word that names a group is the DID of that group, one of those listed
@@ -53,6 +55,45 @@ module _ (dids : List ℕ) (w : ℕ) where
     pub names : eqb w (did_in dids (group_in dids w)) ≡ true → Named dids w (group_in dids w)
     names t = named (λ e. no-yes (eqb w (did_in dids (group_in dids w))) (unnamed e) t)
 
+-- ---- the group, by the place of the first DID that is the word
+
+some-group : (g : ℕ) → (g ≡ 0 → ⊥) → some_group g ≡ Some g
+some-group g n = rw (ne_eqb g 0 n)
+
+-- an answer with a group, and one without
+pub is_group : {n : ℕ} (g : ℕ) → Some n ≡ some_group g → (n ≡ g) × (g ≡ 0 → ⊥)
+is_group zero e = absurd cc
+is_group {n} (suc g) e =
+    let s : Some n ≡ Some (suc g) = e ∙ some-group (suc g) (omega arith) in
+    (cc, λ z. omega arith)
+
+pub no-group : (g : ℕ) → None ≡ some_group g → g ≡ 0
+no-group zero e = refl
+no-group (suc g) e =
+    let s : None ≡ Some (suc g) = e ∙ some-group (suc g) (omega arith) in
+    absurd cc
+
+abbrev after_place : Option ℕ → Option ℕ
+after_place None = None
+after_place (Some i) = Some (suc i)
+
+module _ (dids : List ℕ) (w : ℕ) where
+  abbrev pub is_did : ℕ → Bool
+  is_did i = eqb w (get_or dids i 0)
+
+  by-place : some_group (group_in dids w) ≡ after_place (first is_did 0 (length dids) Some None)
+  by-place =
+      sym (first-map some_group is_did is_did 0 (length dids) suc (λ i. Some (suc i)) 0 (λ i l. refl) (λ i. sym (some-group (suc i) (omega arith))))
+      ∙ first-map after_place is_did is_did 0 (length dids) Some (λ i. Some (suc i)) None (λ i l. refl) (λ i. refl)
+
+  pub group-nowhere : None ≡ first is_did 0 (length dids) Some None → None ≡ some_group (group_in dids w)
+  group-nowhere e = sym (by-place ∙ ap after_place (sym e))
+
+  pub group-place : {i : ℕ} → Some i ≡ first is_did 0 (length dids) Some None → Some (i + 1) ≡ some_group (group_in dids w)
+  group-place {i} e =
+      let q : i + 1 ≡ suc i = omega arith in
+      ap Some q ∙ sym (by-place ∙ ap after_place (sym e))
+
 -- ---- laws of each of four DIDs, by one test that antt computes
 
 pub each-group : (f g : ℕ → ℕ) → T (every 4 (λ k. eqb (f (suc k)) (g (suc k)))) → (group : ℕ) → 1 ≤ group → group ≤ 4 → f group ≡ g group
@@ -65,18 +106,6 @@ in_full w = w % 2 ^ 8 + ones (w % 2 ^ 8) % 2 * 2 ^ 8 + (1 - ones (w % 2 ^ 8) % 2
 
 pub full-word : (w : ℕ) → in_full w ≡ w → word_of (w % 2 ^ 8) ≡ w
 full-word w e = word-in-full (w % 2 ^ 8) (omega arith) ∙ e
-
--- ---- a head refuses with 13, at one of its words
-
-abbrev Within : ℕ → List (ℕ × ℕ) → Type 0
-Within n [] = Unit {0}
-Within n (s ∷ head) = (s.0 < n) × Within n head
-
-listed-stops : (n : ℕ) (head : List (ℕ × ℕ)) (words : List ℕ) {number place : ℕ} → Within n head → Stops (head_demands head words) number place
-    → (number ≡ 13) × (place < n)
-listed-stops n [] words h s = not-both {A = ℕ} {v = 0} (sym (stopped (accepted 0) s) ∙ passing (accepted 0) [] tt)
-listed-stops n (s ∷ head) words h (fails f) = (refl, h.0)
-listed-stops n (s ∷ head) words h (later m q) = listed-stops n head words h.1 q
 
 -- ---- what is read of a head
 
@@ -95,7 +124,3 @@ module _ (dids : List ℕ) (dc : ℕ) (words : List ℕ) (six : 6 ≤ length wor
   head-refused {number} {place} e =
       beyond (le-leb 6 (length words) six)
       (stops (group_in dids (get_or words 3 0)) (asks 1 0 (leb 6 (length words)) ∷ head_demands (head_in dids dc words) words) number place (sym e))
-
-  pub head-places : {number place : ℕ} → refused number place ≡ head_answer dids dc words → (number ≡ 13) × (place < 6)
-  head-places e =
-      listed-stops 6 (head_in dids dc words) words (omega arith & omega arith & omega arith & omega arith & omega arith & tt) (head-refused e)

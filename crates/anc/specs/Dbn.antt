@@ -1,5 +1,5 @@
--- The data block number: 0 to 255 (2). A sender that counts runs 1 to 255 and then 1 again; 0 says that it does not count, and the next
--- after 0 is 0. Assumes nothing.
+-- The data block number: 0 to 255 (2). A sender that counts runs 1 to 255 and then 1 again; 0 says that it does not
+-- count, and the next after 0 is 0. Assumes nothing.
 use Rattle.std.specs.Prelude.{ℕ, zero, suc, ◌+◌, [], ◌∷◌, eqb, leb}
 use Rattle.bits.specs.Pick.{pick}
 use Rattle.answer.specs.Answer.{Answer, Answer.accepted, Answer.refused}

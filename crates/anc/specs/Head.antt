@@ -1,7 +1,7 @@
--- The head of an ancillary packet (BT.1364), for any kind of packet: the ADF, the DID of a group from the kind's list, the DC.
--- Assumes nothing.
-use Rattle.std.specs.Prelude.{ℕ, suc, ◌-◌, List, [], ◌∷◌, map, eqb, leb, length, get_or}
-use Rattle.bits.specs.Pick.{first}
+-- The head of an ancillary packet (BT.1364), for any kind of packet: the ADF, the DID of a group from the kind's list,
+-- the DC. Assumes nothing.
+use Rattle.std.specs.Prelude.{ℕ, suc, ◌-◌, List, [], ◌∷◌, map, eqb, leb, length, get_or, Option, Some, None}
+use Rattle.bits.specs.Pick.{pick, first}
 use Rattle.answer.specs.Answer.{Answer, Answer.accepted}
 use Rattle.answer.specs.Demand.{Demand, Demand.asks, provided}
 
@@ -12,6 +12,10 @@ did_in dids group = get_or dids (group - 1) 0
 -- the group of a DID word; 0 if it is none of those listed
 abbrev pub group_in : List ℕ → ℕ → ℕ
 group_in dids w = first (λ i. eqb w (get_or dids i 0)) 0 (length dids) suc 0
+
+-- as an answer, which has none for 0
+abbrev pub some_group : ℕ → Option ℕ
+some_group group = pick (eqb group 0) None (Some group)
 
 -- words and the value of each: 0 to 2 the ADF, 3 the DID, 5 the DC; word 4, the DBN, may have any
 abbrev pub head_of : ℕ → ℕ → List (ℕ × ℕ)

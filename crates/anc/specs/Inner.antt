@@ -1,5 +1,5 @@
 -- What only the code needs: searches over words, and a pass over several at once. Assumes nothing.
-use Rattle.std.specs.Prelude.{ℕ, ◌+◌, ◌%◌, ◌^◌, ◌≤◌, ◌<◌, Bool, true, ◌&&◌, List, [], ◌∷◌, eqb, length}
+use Rattle.std.specs.Prelude.{ℕ, ◌+◌, ◌%◌, ◌^◌, ◌≤◌, ◌<◌, Bool, true, ◌&&◌, List, [], ◌∷◌, eqb, length, Option, Some, None}
 use Rattle.bits.specs.Pick.{pick, first}
 use Rattle.answer.specs.Demand.{Demand, AllMet, Stops}
 use Rattle.anc.specs.Word.{word_of, parities, wide_at, wrong_at}
@@ -13,14 +13,15 @@ unfoldable pub all_coded : List ℕ → Bool
 all_coded [] = true
 all_coded (w ∷ ws) = coded w && all_coded ws
 
--- the first word of more than ten bits, and the first whose b8 or b9 is wrong by the parity; or how many words there are
-unfoldable pub first_wide : List ℕ → ℕ
-first_wide ws = first (wide_at ws) 0 (length ws) (λ i. i) (length ws)
+-- the first word of more than ten bits, and the first whose b8 or b9 is wrong by the parity
+unfoldable pub first_wide : List ℕ → Option ℕ
+first_wide ws = first (wide_at ws) 0 (length ws) Some None
 
-unfoldable pub first_wrong : List ℕ → ℕ
-first_wrong ws = first (wrong_at parities ws) 0 (length ws) (λ i. i) (length ws)
+unfoldable pub first_wrong : List ℕ → Option ℕ
+first_wrong ws = first (wrong_at parities ws) 0 (length ws) Some None
 
--- of demands that each refuse with this number: r is the place of the first that is not met, or at least `none` where all are
+-- of demands that each refuse with this number: r is the place of the first that is not met, or at least `none` where
+-- all are
 pub record FirstUnmet (ds : List Demand) (number none r : ℕ) : Type 0 where
   pub stops : r < none → Stops ds number r
   pub all-met : none ≤ r → AllMet ds

@@ -1,10 +1,10 @@
 -- What a check that found nothing says of the block, and that a block that was read can only be refused for its status
 -- or for a sample that is longer than its status declares.
 -- Assumes nothing.
-use mathlib.Core.Path.{◌≡◌, refl, ap, ◌∙◌}
+use mathlib.Core.Path.{◌≡◌, refl, sym, ap, ◌∙◌}
 use mathlib.Core.Logic.{⊎_elim}
 use mathlib.Core.Bool.{Bool, true, false, not}
-use mathlib.Core.List.{List, ◌∷◌}
+use mathlib.Core.List.{List, [], ◌∷◌, ◌++◌}
 use Prim.Native.Nat.{ℕ, zero, suc, ◌+◌, ◌-◌, ◌*◌, ◌≤◌, ◌<◌}
 use native.Mathlib.Numerals.{add-one}
 use native.Mathlib.Omega.{arith}
@@ -12,21 +12,25 @@ use borrow.Author.Tests.{eq-eqb, eqb-true, lt-ltb, not-false}
 use lib.Dec.{eqb}
 use lib.IntN.{ℤ, pos}
 use lib.ListN.{length, get_or, get_or-eq_default}
-use Rattle.bits.specs.Pick.{first}
+use Rattle.bits.specs.Pick.{pick, first}
 use Rattle.bits.specs.Row.{digit, count}
 use Rattle.bits.specs.Listed.{listed}
 use Rattle.bits.proofs.Tests.{pick-cases, no-yes, order}
 use Rattle.bits.proofs.Digits.{digit-cases}
-use Rattle.answer.specs.Answer.{Answer.accepted, Answer.refused}
-use Rattle.answer.specs.Demand.{Demand, Demand.finds_none, AllMet, Stops, ◌&◌}
-use Rattle.answer.specs.Demand.Stops.{found}
-use Rattle.answer.proofs.Chains.{met, stops, beyond}
+use Rattle.answer.specs.Answer.{Answer, Answer.accepted, Answer.refused}
+use Rattle.answer.specs.Demand.{Demand, Demand.asks, Demand.finds_none, provided, AllMet, Stops, ◌&◌}
+use Rattle.answer.specs.Demand.Stops.{found, later}
+use Rattle.answer.specs.Said.{number_of, place_of, said}
+use Rattle.answer.specs.declared.Refusal.{Refusal}
+use Rattle.answer.proofs.Chains.{met, stops, beyond, stopped, passing, passes_on, extended}
+use Rattle.std.specs.Prelude.{Err, Option, Some, None}
 use Rattle.codes.specs.Crcc.{crcc_right}
 use Rattle.subframe.specs.Signed.{in_range}
 use Rattle.subframe.proofs.BodyTrips.{sample_in}
 use Rattle.block.specs.Side.{status, fault, columns, column_length, side_length}
 use Rattle.block.specs.Block.{side_at, samples_of, side_of}
-use Rattle.block.specs.Check.{status_of, status_right, Faultless, faulty, outside, consumer, wrong, unmarked, overlong, status_demands, block_demands, check_demands, status_checked, checked}
+use Rattle.block.specs.Check.{status_of, status_right, Faultless, faulty, outside, consumer, wrong, unmarked, overlong, status_demands, length_demands, block_demands, check_demands, status_checked, checked}
+use Rattle.block.specs.Inner.{AllInRange, faults_checked, range_checked, lengths_checked}
 use Rattle.block.proofs.SideLaws.{get_or-column_in}
 use Rattle.block.proofs.BlockLaws.{InRange, length-samples, get_or-samples, length-side, side-digit}
 
@@ -74,6 +78,42 @@ module _ (p : ℕ → Bool) where
   neither a b zero l m = a
   neither a b (suc zero) l m = b
   neither a b (suc (suc i)) l m = absurd (omega arith)
+
+-- as code looks for the first of the two
+module _ (p : ℕ → Bool) {a b : Bool} {r : Option ℕ} (ea : a ≡ p 0) (eb : b ≡ p 1) (e : r ≡ pick a (Some 0) (pick b (Some 1) None)) where
+  pub channel-found : {number k : ℕ} {ds : List Demand} → r ≡ Some k → Stops (finds_none number p 0 2 ∷ ds) number k
+  channel-found {number} {k} {ds} h =
+      pick-cases (λ x. Some k ≡ x → Stops (finds_none number p 0 2 ∷ ds) number k) a (Some 0) (pick b (Some 1) None)
+      (λ t q. let z : k ≡ 0 = cc in rw z (at-A p (sym ea ∙ t)))
+      (λ f. pick-cases (λ x. Some k ≡ x → Stops (finds_none number p 0 2 ∷ ds) number k) b (Some 1) None
+      (λ t q. let z : k ≡ 1 = cc in rw z (at-B p (sym ea ∙ f) (sym eb ∙ t)))
+      (λ g q. cc)) (sym h ∙ e)
+
+  pub no-channel : r ≡ None → (i : ℕ) → 0 ≤ i → i < 0 + 2 → p i ≡ false
+  no-channel h =
+      pick-cases (λ x. None ≡ x → (i : ℕ) → 0 ≤ i → i < 0 + 2 → p i ≡ false) a (Some 0) (pick b (Some 1) None)
+      (λ t q. cc)
+      (λ f. pick-cases (λ x. None ≡ x → (i : ℕ) → 0 ≤ i → i < 0 + 2 → p i ≡ false) b (Some 1) None
+      (λ t q. cc)
+      (λ g q. neither p (sym ea ∙ f) (sym eb ∙ g))) (sym h ∙ e)
+
+-- ---- a search of n places for one kind of refusal, as code makes it
+
+module _ (number : ℕ) (p : ℕ → Bool) (n i : ℕ) (before : (k : ℕ) → k < i → p k ≡ false) where
+  pub hit : i < n → p i ≡ true → ◌≡◌ {A = Answer (Unit {0})} (refused number i) (provided (finds_none number p 0 n ∷ []) (accepted tt))
+  hit h t = sym (stopped (accepted tt) (found {k = 0} {n = n} {i = i} {p = p} (omega arith) (omega arith) t (λ j l m. before j m)))
+
+  pub miss : n ≤ i → ◌≡◌ {A = Answer (Unit {0})} (accepted tt) (provided (finds_none number p 0 n ∷ []) (accepted tt))
+  miss h = sym (passing (accepted tt) (finds_none number p 0 n ∷ []) ((λ j l m. before j (omega arith)) & tt))
+
+-- ---- one kind after another, as `?` takes them
+
+pub refusal-stops : (ds : List Demand) (e : Refusal) → said {A = Unit {0}} (Err e) ≡ provided ds (accepted tt)
+    → Stops ds (number_of e) (place_of e)
+refusal-stops ds e h = stops tt ds (number_of e) (place_of e) (sym h)
+
+pub accepted-met : (ds : List Demand) → ◌≡◌ {A = Answer (Unit {0})} (accepted tt) (provided ds (accepted tt)) → AllMet ds
+accepted-met ds h = (met tt ds (sym h)).0
 
 -- ---- a block that passes
 
@@ -146,6 +186,53 @@ right-back s t p channel h = rw (eq-eqb (length t) side_length p.side, lt-ltb ch
 pub status-met : (t : List ℕ) → status_checked t ≡ accepted tt → AllMet (status_demands t)
 unfolding status_checked
 status-met t e = (met tt (status_demands t) e).0
+
+-- ---- the kinds one after another, of samples and a side table of the right lengths
+
+module _ (s : List ℤ) (t : List ℕ) (ns : length s ≡ 384) (nt : length t ≡ side_length) where
+  in-lengths : {ds : List Demand} {number place : ℕ} → Stops ds number place
+      → Stops (asks 1 0 (eqb (length s) 384) ∷ asks 1 0 (eqb (length t) side_length) ∷ ds) number place
+  in-lengths z = later (eq-eqb (length s) 384 ns) (later (eq-eqb (length t) side_length nt) z)
+
+  pub at-faults : (e : Refusal) → said {A = Unit {0}} (Err e) ≡ faults_checked t → said {A = Unit {0}} (Err e) ≡ checked s t
+  unfolding checked faults_checked
+  at-faults e h =
+      sym (stopped (accepted tt) (in-lengths
+      (extended (refusal-stops (finds_none 20 (faulty t) 0 384 ∷ []) e h)
+      (finds_none 3 (outside s) 0 384 ∷ (status_demands t ++ length_demands s t)))))
+
+  module _ (no-fault : ◌≡◌ {A = Answer (Unit {0})} (accepted tt) (faults_checked t)) where
+    none : (i : ℕ) → 0 ≤ i → i < 0 + 384 → faulty t i ≡ false
+    unfolding faults_checked
+    none = (accepted-met (finds_none 20 (faulty t) 0 384 ∷ []) no-fault).0
+
+    pub at-range : (e : Refusal) → said {A = Unit {0}} (Err e) ≡ range_checked s → said {A = Unit {0}} (Err e) ≡ checked s t
+    unfolding checked range_checked
+    at-range e h =
+        sym (stopped (accepted tt) (in-lengths (later none
+        (extended (refusal-stops (finds_none 3 (outside s) 0 384 ∷ []) e h) (status_demands t ++ length_demands s t)))))
+
+    module _ (no-outside : ◌≡◌ {A = Answer (Unit {0})} (accepted tt) (range_checked s)) where
+      within : (i : ℕ) → 0 ≤ i → i < 0 + 384 → outside s i ≡ false
+      unfolding range_checked
+      within = (accepted-met (finds_none 3 (outside s) 0 384 ∷ []) no-outside).0
+
+      pub all-in-range : AllInRange s
+      all-in-range i h = in-range s ns within i
+
+      pub at-status : (e : Refusal) → said {A = Unit {0}} (Err e) ≡ status_checked t → said {A = Unit {0}} (Err e) ≡ checked s t
+      unfolding checked status_checked
+      at-status e h =
+          sym (stopped (accepted tt) (in-lengths (later none (later within
+          (extended (refusal-stops (status_demands t) e h) (length_demands s t))))))
+
+      pub at-lengths : (a : Answer (Unit {0})) → ◌≡◌ {A = Answer (Unit {0})} (accepted tt) (status_checked t) → a ≡ lengths_checked s t → a ≡ checked s t
+      unfolding checked lengths_checked
+      at-lengths a no-status h =
+          h ∙ sym (passes_on (accepted tt)
+          (asks 1 0 (eqb (length s) 384) ∷ asks 1 0 (eqb (length t) side_length) ∷ finds_none 20 (faulty t) 0 384
+          ∷ finds_none 3 (outside s) 0 384 ∷ status_demands t) (length_demands s t)
+          (eq-eqb (length s) 384 ns & eq-eqb (length t) side_length nt & none & within & status-met t (sym no-status)))
 
 pub read-met : (b : List ℕ) → Faultless (side_of b) → status_checked (side_of b) ≡ accepted tt
     → ((i : ℕ) → i < 384 → overlong (samples_of b) (side_of b) i ≡ false) → AllMet (check_demands (samples_of b) (side_of b))

@@ -8,11 +8,9 @@ use native.Mathlib.Omega.{arith}
 use borrow.Author.Tests.{eqb-true, not-false}
 use lib.Dec.{eqb}
 use lib.ListN.{get_or}
-use Rattle.bits.specs.Pick.{first}
 use Rattle.bits.specs.Row.{bit, count}
 use Rattle.bits.specs.Listed.{listed}
 use Rattle.bits.proofs.Digits.{digit-cases}
-use Rattle.bits.proofs.Places.{first-none}
 use Rattle.answer.proofs.Chains.{none_found}
 use Rattle.block.specs.Side.{fault, columns, column_length}
 use Rattle.block.specs.Check.{faulty}
@@ -34,10 +32,9 @@ clear t i h z =
     digit-cases (λ (c : ℕ). faults_of t c (i / 16) ≡ 0) (omega arith) (omega arith) (i % 2) (omega arith) in
     rw (side-octet t fault i (omega arith) h, o, zero-div)
 
--- where no sixteen has an E that is set, none is found
-pub none-set : (t : List ℕ) → count (listed 0 24 (some_fault t)) ≡ 0 → first (faulty t) 0 384 (λ i. i) 384 ≡ 384
+-- where no sixteen has an E that is set, none is
+pub none-set : (t : List ℕ) → count (listed 0 24 (some_fault t)) ≡ 0 → (i : ℕ) → i < 384 → faulty t i ≡ false
 unfolding some_fault
-none-set t z =
+none-set t z i h =
     let none = none_found (some_fault t) 24 24 (sym (count_none (some_fault t) (λ i. i) 24 0 24 z)) (omega arith) in
-    first-none (faulty t) (λ i. i) 384 0 384
-    (λ i h. clear t i (omega arith) (eqb-true _ 0 (not-false (eqb (faults_of t 0 (i / 16) + faults_of t 1 (i / 16)) 0) (none (i / 16) (omega arith) (omega arith)))))
+    clear t i h (eqb-true _ 0 (not-false (eqb (faults_of t 0 (i / 16) + faults_of t 1 (i / 16)) 0) (none (i / 16) (omega arith) (omega arith))))

@@ -13,10 +13,9 @@ use lib.Dec.{eqb}
 use lib.IntN.{ℤ, pos}
 use lib.ListN.{get_or}
 use lib.Pow.{shl_exact, shl-shr}
-use Rattle.bits.specs.Pick.{pick, first}
+use Rattle.bits.specs.Pick.{pick}
 use Rattle.bits.proofs.Beside.{same_or_not}
 use Rattle.bits.proofs.Digits.{digit-cases}
-use Rattle.bits.proofs.Firsts.{first-map}
 use Rattle.subframe.specs.Signed.{code_of}
 use Rattle.status.specs.declared.Auxiliary.{Auxiliary}
 use Rattle.status.specs.declared.Auxiliary.TheVariants as auxiliary
@@ -115,9 +114,7 @@ overlong-masked samples side i =
     ≡ not (eqb (bit_and (code_of 24 (get_or samples i (pos 0))) (pick (eqb k 0) (mask_under (meaning_in side 0)) (mask_under (meaning_in side 1)))) 0))
     (under (meaning_in side 0) _) (under (meaning_in side 1) _) (i % 2) (omega arith)
 
-pub first-masked-is : (samples : List ℤ) (side : List ℕ)
-    → first (masked samples (mask_under (meaning_in side 0)) (mask_under (meaning_in side 1))) 0 384 (λ i. i) 384
-    ≡ first (overlong samples side) 0 384 (λ i. i) 384
-first-masked-is samples side =
-    first-map (λ (i : ℕ). i) (overlong samples side) (masked samples (mask_under (meaning_in side 0)) (mask_under (meaning_in side 1))) 0 384 (λ i. i) (λ i. i) 384
-    (λ i l. sym (overlong-masked samples side i)) (λ i. refl)
+-- by the masks themselves
+pub overlong-is : (samples : List ℤ) (side : List ℕ) (a b : ℕ) → a ≡ mask_under (meaning_in side 0) → b ≡ mask_under (meaning_in side 1)
+    → (i : ℕ) → overlong samples side i ≡ masked samples a b i
+overlong-is samples side a b ea eb i = rw (ea, eb) (overlong-masked samples side i)

@@ -1,21 +1,17 @@
 -- All samples at once: what a lifted sample tells of its sample, and what is gathered of pairs of them. Assumes nothing.
-use mathlib.Core.Path.{◌≡◌, refl, sym, ap, ◌∙◌, subst, subst⁻¹}
+use mathlib.Core.Path.{◌≡◌, refl, sym, ap, ◌∙◌, subst}
 use mathlib.Core.Logic.{⊎_elim}
 use mathlib.Core.Bool.{true, false, not}
 use mathlib.Core.List.{List}
-use Prim.Native.Nat.{ℕ, suc, ◌+◌, ◌-◌, ◌*◌, ◌/◌, ◌%◌, ◌^◌, ◌<◌}
+use Prim.Native.Nat.{ℕ, ◌+◌, ◌-◌, ◌*◌, ◌/◌, ◌%◌, ◌^◌, ◌<◌}
 use native.Mathlib.Nat.{mod-eq_of_lt}
 use native.Mathlib.Omega.{arith}
-use borrow.Author.Tests.{lt-ltb, le-ltb, ltb-true, eq-eqb}
+use borrow.Author.Tests.{eq-eqb}
 use lib.Arith.{bin_ind}
 use lib.Bits.{bit_and, bit_or, and_zero_l, or_zero_l, and_shr, or_shr, and_mod, or_mod, or_add_and, and_le_l, and_le_r, and_block, and_high}
-use lib.Dec.{T, eqb}
-use lib.IntN.{ℤ, pos, negsuc, nat_abs, ◌+ℤ◌}
+use lib.Dec.{eqb}
+use lib.IntN.{ℤ, pos}
 use lib.ListN.{get_or}
-use lib.Signed.{mag, non_neg}
-use mir.Syntax.{w32, w64}
-use mir.Val.{SFits, Fits, to_z, of_z}
-use mir.Facts.{to_z-of_z}
 use Rattle.bits.proofs.Beside.{same_or_not}
 use Rattle.bits.proofs.Digits.{digit-cases}
 use Rattle.subframe.specs.Signed.{in_range, code_of}
@@ -65,56 +61,6 @@ side_by_side : (h l b a : ℕ) → l < 2 ^ 32 → a < 2 ^ 32 → bit_and (h * 2 
 side_by_side h l b a hl ha e =
     let s = sym (and_block 32 h b l a hl ha) ∙ e in
     (omega (arith, s), omega (arith, s))
-
--- ---- one sample
-
-abbrev lift : ℕ
-lift = 2 ^ 32 + 2 ^ 23
-
--- the sample with 2 ^ 32 + 2 ^ 23 added
-abbrev moved : ℤ → ℕ
-moved (pos n) = n + lift
-moved (negsuc n) = lift - suc n
-
-moved_sum : (z : ℤ) → mag z < 2 ^ 31 → z +ℤ pos lift ≡ pos (moved z)
-moved_sum (pos n) l = refl
-moved_sum (negsuc n) l = rw (le-ltb lift (suc n) (omega arith))
-
-moved-lt : (z : ℤ) → mag z < 2 ^ 31 → moved z < 2 ^ 33
-moved-lt (pos n) l = omega arith
-moved-lt (negsuc n) l = omega arith
-
-moved-lifts : (z : ℤ) → mag z < 2 ^ 31 → Lifts z (moved z % 2 ^ 32)
-moved-lifts (pos n) l = (omega arith, λ h. lt-ltb n (2 ^ 23) (omega arith), λ h. let q = ltb-true n (2 ^ 23) h in omega (arith, q))
-moved-lifts (negsuc n) l = (omega arith, λ h. lt-ltb n (2 ^ 23) (omega arith), λ h. let q = ltb-true n (2 ^ 23) h in omega (arith, q))
-
--- as code computes it, of a sample that 32 bits hold
-module _ {z : ℤ} (held : SFits w32 z) where
-  small : mag z < 2 ^ 31
-  small = held.sfits
-
-  pub wider : SFits w64 (to_z w32 (of_z w32 z))
-  wider = subst⁻¹ (SFits w64) (to_z-of_z held) (record { sfits = omega (arith, small) })
-
-  abbrev sum : ℤ
-  sum = to_z w64 (of_z w64 (to_z w32 (of_z w32 z))) +ℤ pos lift
-
-  sum_moved : sum ≡ pos (moved z)
-  sum_moved = ap (λ (y : ℤ). y +ℤ pos lift) (to_z-of_z wider ∙ to_z-of_z held) ∙ moved_sum z small
-
-  pub sum_fits : SFits w64 sum
-  sum_fits = subst⁻¹ (SFits w64) sum_moved (record { sfits = omega (arith, moved-lt z small) })
-
-  sum-held : to_z w64 (of_z w64 sum) ≡ pos (moved z)
-  sum-held = to_z-of_z sum_fits ∙ sum_moved
-
-  pub sum-natural : T (non_neg (to_z w64 (of_z w64 sum))) × Fits w64 (nat_abs (to_z w64 (of_z w64 sum)))
-  sum-natural =
-      subst⁻¹ (λ (y : ℤ). T (non_neg y) × Fits w64 (nat_abs y)) sum-held
-      (tt, record { fits = omega (arith, moved-lt z small) })
-
-  pub sum-lifts : Lifts z (nat_abs (to_z w64 (of_z w64 sum)) % 2 ^ 32)
-  sum-lifts = subst⁻¹ (λ (y : ℤ). Lifts z (nat_abs y % 2 ^ 32)) sum-held (moved-lifts z small)
 
 -- ---- all of them
 

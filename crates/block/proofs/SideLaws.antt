@@ -4,8 +4,9 @@ use mathlib.Core.Path.{◌≡◌, sym, ap, ◌∙◌}
 use mathlib.Core.Logic.{◌≢◌, ⊎_elim}
 use mathlib.Core.Bool.{false, ◌&&◌}
 use mathlib.Core.List.{List}
-use Prim.Native.Nat.{ℕ, zero, suc, ◌+◌, ◌*◌, ◌/◌, ◌%◌, ◌^◌, ◌≤◌, ◌<◌}
+use Prim.Native.Nat.{ℕ, zero, suc, ◌+◌, ◌-◌, ◌*◌, ◌/◌, ◌%◌, ◌^◌, ◌≤◌, ◌<◌}
 use native.Mathlib.Omega.{arith}
+use borrow.Rule.Slice.PartMut.{mid_of}
 use borrow.Author.Tests.{lt-ltb}
 use lib.Dec.{ltb}
 use lib.ListN.{length, get_or, drop, length-drop}
@@ -23,6 +24,13 @@ use Rattle.bits.proofs.Lists.{listed-all}
 use Rattle.subframe.specs.Body.{even_body}
 use Rattle.subframe.proofs.BodyLaws.{parity-lt}
 use Rattle.block.specs.Side.{columns, column_bit, column_length, side_length, side_bit, column_in, column_row, column_of}
+
+-- the part of the table that begins with a column is the column
+pub column-is : (side : List ℕ) (column : ℕ) → mid_of (24 * column) (24 * column + 24 - 24 * column) side ≡ column_in side column
+unfolding column_in
+column-is side column =
+    let e : 24 * column + 24 - 24 * column ≡ 24 = omega arith in
+    rw e
 
 -- ---- a column there and back
 

@@ -3,20 +3,18 @@ ghost use Rattle.std.specs.Prelude.{◌≡◌, ◌+◌, ◌-◌, ◌*◌, ◌/�
 ghost use Rattle.subframe.specs.Body.{parity_of};
 ghost use Rattle.block.specs.Side.{column_bits, columns, column_length, side_length};
 ghost use Rattle.block.specs.Block.{samples_of, side_of};
-ghost use Rattle.block.specs.Inner.{digits_of, apart_table, gathered, laid, channel_side};
+ghost use Rattle.block.specs.Inner.{number_of, digits_of, gathered, laid, channel_side};
 
-use crate::{CHANNEL, COLUMN, COLUMNS};
+use crate::tables::APART;
+use crate::{CHANNEL, COLUMN, COLUMNS, Channel, SUBFRAMES};
 
 // The samples of 384 bodies.
-pub(crate) fn fill_samples(bodies: &[u32], samples: &mut [i32])
-    requires { (length bodies.now ≡ 384) × (length samples.old ≡ 384) }
+pub(crate) fn fill_samples(bodies: &[u32; SUBFRAMES], samples: &mut [i32])
+    requires { length samples.old ≡ 384 }
     ensures { samples.new ≡ samples_of bodies.now }
 {
-    let mut i = 0;
-    while i < 384 {
-        let x = subframe::sample_of(bodies[i]);
-        samples[i] = x;
-        i += 1;
+    for (i, x) in samples.iter_mut().enumerate() {
+        *x = subframe::sample_of(bodies[i]);
     }
 }
 
@@ -28,32 +26,28 @@ fn slots_and_parity(body: u32) -> u32
 }
 
 // What the columns hold of a body, column k at weight 256^k: slots 28 to 30 and whether it is odd, by a table, at once.
-fn apart(table: &[u32], body: u32) -> u32
-    requires { table.now ≡ apart_table }
+fn apart(body: u32) -> u32
     ensures { result ≡ digits_of column_bits body }
 {
-    table[slots_and_parity(body) as usize]
+    APART[slots_and_parity(body) as usize]
 }
 
 // Of the eight bodies of a channel that octet j is of, the one that is m before the last.
-fn body_at(bodies: &[u32], channel: usize, j: usize, m: usize) -> u32
-    requires { (length bodies.now ≡ 384) × (channel < 2) × (j < column_length) × (m < 8) }
-    ensures { result ≡ get_or bodies.now (2 * (j * 8 + 7 - m) + channel) 0 }
+fn body_at(bodies: &[u32; SUBFRAMES], channel: Channel, j: usize, m: usize) -> u32
+    requires { (j < column_length) × (m < 8) }
+    ensures { result ≡ get_or bodies.now (2 * (j * 8 + 7 - m) + number_of channel) 0 }
 {
-    bodies[2 * (j * 8 + 7 - m) + channel]
+    bodies[2 * (j * 8 + 7 - m) + channel.number()]
 }
 
 // Octet j of each column of a channel, column k at weight 256^k: eight of its bodies, the last first.
-fn channel_octets(table: &[u32], bodies: &[u32], channel: usize, j: usize) -> u32
-    requires { (table.now ≡ apart_table) × (length bodies.now ≡ 384) × (channel < 2) × (j < column_length) }
-    ensures { result ≡ gathered column_bits bodies.now channel (j * 8) 8 }
+fn channel_octets(bodies: &[u32; SUBFRAMES], channel: Channel, j: usize) -> u32
+    requires { j < column_length }
+    ensures { result ≡ gathered column_bits bodies.now (number_of channel) (j * 8) 8 }
 {
     let mut n: u32 = 0;
-    let mut m = 0;
-    while m < 8 {
-        let b = body_at(bodies, channel, j, m);
-        n = n * 2 + apart(table, b);
-        m += 1;
+    for m in 0..8 {
+        n = n * 2 + apart(body_at(bodies, channel, j, m));
     }
     n
 }
@@ -64,37 +58,28 @@ fn lay_octets(octets: u32, j: usize, part: &mut [u8])
     ensures { part.new ≡ laid 0 columns j octets part.old }
 {
     let mut left = octets;
-    let mut k = 0;
-    while k < COLUMNS {
+    for k in 0..COLUMNS {
         part[COLUMN * k + j] = (left % 256) as u8;
-        left = left / 256;
-        k += 1;
+        left /= 256;
     }
 }
 
 // The columns of a channel.
-fn fill_channel(table: &[u32], bodies: &[u32], channel: usize, part: &mut [u8])
-    requires { (table.now ≡ apart_table) × (length bodies.now ≡ 384) × (channel < 2) × (length part.old ≡ column_length * columns) }
-    ensures { part.new ≡ channel_side bodies.now channel }
+fn fill_channel(bodies: &[u32; SUBFRAMES], channel: Channel, part: &mut [u8])
+    requires { length part.old ≡ column_length * columns }
+    ensures { part.new ≡ channel_side bodies.now (number_of channel) }
 {
-    let mut j = 0;
-    while j < COLUMN {
-        let n = channel_octets(table, bodies, channel, j);
-        lay_octets(n, j, part);
-        j += 1;
+    for j in 0..COLUMN {
+        lay_octets(channel_octets(bodies, channel, j), j, part);
     }
 }
 
 // The side table of 384 bodies, channel by channel.
-pub(crate) fn fill_side(table: &[u32], bodies: &[u32], side: &mut [u8])
-    requires { (table.now ≡ apart_table) × (length bodies.now ≡ 384) × (length side.old ≡ side_length) }
+pub(crate) fn fill_side(bodies: &[u32; SUBFRAMES], side: &mut [u8])
+    requires { length side.old ≡ side_length }
     ensures { side.new ≡ side_of bodies.now }
 {
-    let mut k = 0;
-    while k < 2 {
-        let a = k * CHANNEL;
-        let e = a + CHANNEL;
-        fill_channel(table, bodies, k, &mut side[a..e]);
-        k += 1;
-    }
+    let (a, b) = side.split_at_mut(CHANNEL);
+    fill_channel(bodies, Channel::A, a);
+    fill_channel(bodies, Channel::B, b);
 }

@@ -13,11 +13,8 @@ fn mask_below(declared: WordLength, width: u32, free: u32) -> u32
     match declared {
         WordLength::NotIndicated => 0,
         WordLength::Bits(n) => {
-            let bits = n as u32;
-            if width <= bits {
-                return 0;
-            }
-            (1 << (width - bits + free)) - (1 << free)
+            let unused = width.saturating_sub(u32::from(n));
+            (1 << (unused + free)) - (1 << free)
         }
         WordLength::Reserved(_) => 0,
     }
@@ -27,29 +24,23 @@ fn mask_below(declared: WordLength, width: u32, free: u32) -> u32
 fn mask_with(d: Description) -> u32
     ensures { result ≡ mask_with d.auxiliary d.word_length }
 {
-    let auxiliary = d.auxiliary;
-    let declared = d.word_length;
-    match auxiliary {
-        Auxiliary::MainAudio => mask_below(declared, 24, 0),
-        Auxiliary::NotDefined => mask_below(declared, 20, 4),
-        Auxiliary::Coordination => mask_below(declared, 20, 4),
-        Auxiliary::UserDefined => 0,
-        Auxiliary::Reserved(_) => 0,
+    match d.auxiliary {
+        Auxiliary::MainAudio => mask_below(d.word_length, 24, 0),
+        Auxiliary::NotDefined | Auxiliary::Coordination => mask_below(d.word_length, 20, 4),
+        Auxiliary::UserDefined | Auxiliary::Reserved(_) => 0,
     }
 }
 
 // The same by bytes 0 to 2 of a status. Most often byte 2 declares no length, and nothing else has to be looked at.
-pub fn mask_of(byte0: u8, byte1: u8, byte2: u8) -> u32
+pub(crate) fn mask_of(byte0: u8, byte1: u8, byte2: u8) -> u32
     ensures { result ≡ mask_under (meaning_of byte0 byte1 byte2) }
 {
     if byte2 / 8 % 8 == 0 {
         return 0;
     }
     match status::meaning(byte0, byte1, byte2) {
+        Use::Professional(Audio::LinearPcm(d)) => mask_with(d),
+        Use::Professional(Audio::OtherPurpose(_)) => 0,
         Use::Consumer => 0,
-        Use::Professional(audio) => match audio {
-            Audio::LinearPcm(d) => mask_with(d),
-            Audio::OtherPurpose(_) => 0,
-        },
     }
 }

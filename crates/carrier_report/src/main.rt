@@ -26,6 +26,7 @@ fn read(mut input: Stdin, buf: &mut [u8]) -> usize
     ensures { IsPrefixLen result buf.new }
 {
     let mut done = 0;
+    // a read may give fewer octets than were asked for, so this counts what came and not turns
     while done < buf.len() {
         match input.read(&mut buf[done..]) {
             Ok(more) => {
@@ -55,6 +56,7 @@ fn main(rt: HostRuntime) {
         return;
     }
     let mut n: u64 = 0;
+    // no index: what was read says whether there is another turn
     loop {
         let got = read(input, &mut head);
         let size = records::body_size(&head[..got]);

@@ -1,16 +1,16 @@
 -- What the divider of eight lanes holds after the data are the check octets; what stands between them and those received says, lane
 -- by lane, whether the code is satisfied. Assumes nothing.
-use mathlib.Core.Path.{◌≡◌, refl, sym, ap, ap₂, ◌∙◌, subst}
-use mathlib.Core.Bool.{true, not}
+use mathlib.Core.Path.{◌≡◌, refl, sym, ap, ap₂, ◌∙◌}
+use mathlib.Core.Bool.{Bool, true, not}
 use mathlib.Core.List.{List, [], ◌∷◌, ◌++◌, map, append-nil}
-use Prim.Native.Nat.{ℕ, zero, suc, ◌+◌, ◌/◌, ◌^◌, ◌<◌}
+use Prim.Native.Nat.{ℕ, zero, suc, ◌/◌, ◌^◌, ◌<◌}
 use native.Mathlib.Nat.{zero-div, zero-add}
 use native.Mathlib.Omega.{arith}
 use borrow.Author.Tests.{eq-eqb, eqb-true}
 use lib.Dec.{eqb, lit<}
 use lib.Pow.{pow_pos}
-use lib.ListN.{length, get_or, take, drop, take-append-drop, length-map, length-drop, drop_of_length-le}
-use lib.Seq.{ext_get_or, drop-cons, length-take-le}
+use lib.ListN.{length, get_or, take, drop, take-append-drop, length-map, length-drop}
+use lib.Seq.{ext_get_or, length-take-le}
 use lib.Bits.{bit_xor, xor_lt}
 use Rattle.bits.specs.Row.{Row, bits, little, xor_row, Below}
 use Rattle.bits.specs.Cross.{across, crossed}
@@ -23,7 +23,9 @@ use Rattle.codes.specs.Lane.{lane_generator, lane_check, check_places, satisfies
 use Rattle.codes.proofs.Syndrome.{syndrome-lt, check-lt, by-syndrome}
 use Rattle.codes.specs.Lanes.{lane_of, lanes_of, check_octets, failing}
 use Rattle.codes.specs.Inner.{syndrome, lack_octets}
-use Rattle.codes.proofs.Wide.{fed_all, fed-lane, fed-below, six-below}
+use Rattle.codes.specs.Differences.{xored}
+use Rattle.codes.proofs.Xored.{length-xored, get_or-xored}
+use Rattle.codes.proofs.Wide.{fed_all, fed-lane, six-below}
 
 -- ---- the lanes as a list
 
@@ -78,7 +80,7 @@ across-below ls e n = rw e at (crossed-below 0 n ls)
 abbrev pub zeros : List ℕ
 zeros = 0 ∷ 0 ∷ 0 ∷ 0 ∷ 0 ∷ 0 ∷ []
 
-zeros-below : Below (2 ^ 8) zeros
+pub zeros-below : Below (2 ^ 8) zeros
 zeros-below = six-below (2 ^ 8) 0 0 0 0 0 0 (lit< tt) (lit< tt) (lit< tt) (lit< tt) (lit< tt) (lit< tt)
 
 zeros-lane : (i : ℕ) → little (across i zeros) ≡ 0
@@ -116,10 +118,9 @@ module _ (ds : List ℕ) (h : length ds ≡ 24) (i : ℕ) where
       fed-lane i ds 0 0 0 0 0 0 ∙ ap (λ (s : ℕ). through 6 lane_generator s (across i ds)) (zeros-lane i) ∙ sym lane-check
 
 -- what the divider holds after 24 octets
-pub checks-wide : (ds cs : List ℕ) → length ds ≡ 24 → Below (2 ^ 8) ds → length cs ≡ 6 → cs ≡ fed_all zeros ds → cs ≡ check_octets ds
+pub checks-wide : (ds cs : List ℕ) → length ds ≡ 24 → length cs ≡ 6 → Below (2 ^ 8) cs → cs ≡ fed_all zeros ds → cs ≡ check_octets ds
 unfolding check_octets
-checks-wide ds cs h b n e =
-    by_map check_places ds 6 cs n (subst (Below (2 ^ 8)) (sym e) (fed-below zeros ds zeros-below b)) (λ i l. ap (lane_of i) e ∙ wide-check ds h i)
+checks-wide ds cs h n b e = by_map check_places ds 6 cs n b (λ i l. ap (lane_of i) e ∙ wide-check ds h i)
 
 pub lane-checks : (ds : List ℕ) (i : ℕ) → i < 8 → lane_of i (check_octets ds) ≡ check_places (lane_of i ds)
 unfolding check_octets
@@ -135,25 +136,19 @@ length-checks ds = length-crossed 0 6 (map check_places (lanes_of ds))
 
 -- ---- what is syndrome
 
--- the last six of 30
-pub last-six : (os : List ℕ) → length os ≡ 30
-    → drop 24 os ≡ get_or os 24 0 ∷ get_or os 25 0 ∷ get_or os 26 0 ∷ get_or os 27 0 ∷ get_or os 28 0 ∷ get_or os 29 0 ∷ []
-last-six os h =
-    drop-cons os 24 0 (omega arith)
-    ∙ ap (λ l. get_or os 24 0 ∷ l) (drop-cons os 25 0 (omega arith)
-    ∙ ap (λ l. get_or os 25 0 ∷ l) (drop-cons os 26 0 (omega arith)
-    ∙ ap (λ l. get_or os 26 0 ∷ l) (drop-cons os 27 0 (omega arith)
-    ∙ ap (λ l. get_or os 27 0 ∷ l) (drop-cons os 28 0 (omega arith)
-    ∙ ap (λ l. get_or os 28 0 ∷ l) (drop-cons os 29 0 (omega arith)
-    ∙ ap (λ l. get_or os 29 0 ∷ l) (drop_of_length-le os {i = 30} (omega arith)))))))
+-- exclusive or octet by octet is exclusive or lane by lane
+across-xored : (i : ℕ) (a b : List ℕ) → length a ≡ length b → across i (xored a b) ≡ xor_row (across i a) (across i b)
+unfolding across xored xor_row
+across-xored i [] [] n = refl
+across-xored i [] (p ∷ b) n = absurd (omega arith)
+across-xored i (o ∷ a) [] n = absurd (omega arith)
+across-xored i (o ∷ a) (p ∷ b) n = ap₂ (λ (r : Bool) (rs : Row). r ∷ rs) (odd-xor-at i o p) (across-xored i a b (omega arith))
 
-xor-lane : (i c0 c1 c2 c3 c4 c5 e0 e1 e2 e3 e4 e5 : ℕ)
-    → lane_of i (bit_xor c0 e0 ∷ bit_xor c1 e1 ∷ bit_xor c2 e2 ∷ bit_xor c3 e3 ∷ bit_xor c4 e4 ∷ bit_xor c5 e5 ∷ [])
-    ≡ bit_xor (lane_of i (c0 ∷ c1 ∷ c2 ∷ c3 ∷ c4 ∷ c5 ∷ [])) (lane_of i (e0 ∷ e1 ∷ e2 ∷ e3 ∷ e4 ∷ e5 ∷ []))
-unfolding lane_of across xor_row
-xor-lane i c0 c1 c2 c3 c4 c5 e0 e1 e2 e3 e4 e5 =
-    simp (odd-xor-at i)
-    (little-xor (across i (c0 ∷ c1 ∷ c2 ∷ c3 ∷ c4 ∷ c5 ∷ [])) (across i (e0 ∷ e1 ∷ e2 ∷ e3 ∷ e4 ∷ e5 ∷ [])) refl)
+lane-xored : (i : ℕ) (a b : List ℕ) → length a ≡ length b → lane_of i (xored a b) ≡ bit_xor (lane_of i a) (lane_of i b)
+unfolding lane_of
+lane-xored i a b n =
+    ap little (across-xored i a b n)
+    ∙ little-xor (across i a) (across i b) (length-across i a ∙ n ∙ sym (length-across i b))
 
 module _ (os : List ℕ) (h : length os ≡ 30) where
   pub lane-lt : (i : ℕ) → lane_of i os < 2 ^ 30
@@ -163,54 +158,40 @@ module _ (os : List ℕ) (h : length os ≡ 30) where
   first-24 : length (take 24 os) ≡ 24
   first-24 = length-take-le 24 os (omega arith)
 
-  pub lacks-wide : (c0 c1 c2 c3 c4 c5 : ℕ)
-      → (c0 ∷ c1 ∷ c2 ∷ c3 ∷ c4 ∷ c5 ∷ []) ≡ check_octets (take 24 os)
-      → Below (2 ^ 8) os
-      → (bit_xor c0 (get_or os 24 0) ∷ bit_xor c1 (get_or os 25 0) ∷ bit_xor c2 (get_or os 26 0) ∷ bit_xor c3 (get_or os 27 0)
-      ∷ bit_xor c4 (get_or os 28 0) ∷ bit_xor c5 (get_or os 29 0) ∷ []) ≡ lack_octets os
+  pub length-last : length (drop 24 os) ≡ 6
+  length-last = length-drop 24 os ∙ omega arith
+
+  pub lacks-wide : Below (2 ^ 8) os → xored (check_octets (take 24 os)) (drop 24 os) ≡ lack_octets os
   unfolding lack_octets syndrome
-  lacks-wide c0 c1 c2 c3 c4 c5 e b =
-      by_map syndrome os 6
-      (bit_xor c0 (get_or os 24 0) ∷ bit_xor c1 (get_or os 25 0) ∷ bit_xor c2 (get_or os 26 0) ∷ bit_xor c3 (get_or os 27 0)
-      ∷ bit_xor c4 (get_or os 28 0) ∷ bit_xor c5 (get_or os 29 0) ∷ []) refl
-      (six-below (2 ^ 8) (bit_xor c0 (get_or os 24 0)) (bit_xor c1 (get_or os 25 0)) (bit_xor c2 (get_or os 26 0)) (bit_xor c3 (get_or os 27 0))
-      (bit_xor c4 (get_or os 28 0)) (bit_xor c5 (get_or os 29 0)) (xor_lt 8 c0 (get_or os 24 0) (small 0) (b 24))
-      (xor_lt 8 c1 (get_or os 25 0) (small 1) (b 25)) (xor_lt 8 c2 (get_or os 26 0) (small 2) (b 26)) (xor_lt 8 c3 (get_or os 27 0) (small 3) (b 27))
-      (xor_lt 8 c4 (get_or os 28 0) (small 4) (b 28)) (xor_lt 8 c5 (get_or os 29 0) (small 5) (b 29))) same
+  lacks-wide b =
+      by_map syndrome os 6 (xored checks last) (length-xored checks last long ∙ length-last)
+      (λ i. rw (get_or-xored checks last i long) (xor_lt 8 (get_or checks i 0) (get_or last i 0) (checks-below (take 24 os) i) (below-drop (2 ^ 8) 24 os b i)))
+      (λ i l.
+      lane-xored i checks last long
+      ∙ ap₂ bit_xor
+      (lane-checks (take 24 os) i l ∙ sym (check-whole (take 24 os) first-24 i last) ∙ ap (λ (w : List ℕ). check_places (lane_of i w)) whole)
+      (sym (lane-last (take 24 os) first-24 i last) ∙ ap (λ (w : List ℕ). lane_of i w / 2 ^ 24) whole))
     where
-      small : Below (2 ^ 8) (c0 ∷ c1 ∷ c2 ∷ c3 ∷ c4 ∷ c5 ∷ [])
-      small = subst (Below (2 ^ 8)) (sym e) (checks-below (take 24 os))
+      checks : List ℕ
+      checks = check_octets (take 24 os)
 
-      whole : take 24 os ++ drop 24 os ≡ os
+      last : List ℕ
+      last = drop 24 os
+
+      long : length checks ≡ length last
+      long = length-checks (take 24 os) ∙ sym length-last
+
+      whole : take 24 os ++ last ≡ os
       whole = take-append-drop 24 os
-
-      same : (i : ℕ) → i < 8
-          → lane_of i (bit_xor c0 (get_or os 24 0) ∷ bit_xor c1 (get_or os 25 0) ∷ bit_xor c2 (get_or os 26 0) ∷ bit_xor c3 (get_or os 27 0)
-          ∷ bit_xor c4 (get_or os 28 0) ∷ bit_xor c5 (get_or os 29 0) ∷ []) ≡ syndrome (lane_of i os)
-      same i l =
-          xor-lane i c0 c1 c2 c3 c4 c5 (get_or os 24 0) (get_or os 25 0) (get_or os 26 0) (get_or os 27 0) (get_or os 28 0) (get_or os 29 0)
-          ∙ ap₂ bit_xor
-          (ap (lane_of i) e ∙ lane-checks (take 24 os) i l ∙ sym (check-whole (take 24 os) first-24 i (drop 24 os))
-          ∙ ap (λ (w : List ℕ). check_places (lane_of i w)) whole)
-          (ap (lane_of i) (sym (last-six os h)) ∙ sym (lane-last (take 24 os) first-24 i (drop 24 os))
-          ∙ ap (λ (w : List ℕ). lane_of i w / 2 ^ 24) whole)
 
   pub lane-lacks : (i : ℕ) → i < 8 → lane_of i (lack_octets os) ≡ syndrome (lane_of i os)
   unfolding lack_octets
   lane-lacks i l = lane-map syndrome os 6 i l (syndrome-lt (lane_of i os) (lane-lt i))
 
   -- all six octets 0: no lane lacks anything
-  pub clean-lacks : (s0 s1 s2 s3 s4 s5 : ℕ) → (s0 ∷ s1 ∷ s2 ∷ s3 ∷ s4 ∷ s5 ∷ []) ≡ lack_octets os → s0 + s1 + s2 + s3 + s4 + s5 ≡ 0
-      → (i : ℕ) → i < 8 → syndrome (lane_of i os) ≡ 0
+  pub clean-lacks : lack_octets os ≡ zeros → (i : ℕ) → i < 8 → syndrome (lane_of i os) ≡ 0
   unfolding lane_of
-  clean-lacks s0 s1 s2 s3 s4 s5 e z i l =
-      let z0 : s0 ≡ 0 = omega arith in
-      let z1 : s1 ≡ 0 = omega arith in
-      let z2 : s2 ≡ 0 = omega arith in
-      let z3 : s3 ≡ 0 = omega arith in
-      let z4 : s4 ≡ 0 = omega arith in
-      let z5 : s5 ≡ 0 = omega arith in
-      sym (lane-lacks i l) ∙ ap (lane_of i) (sym e) ∙ rw (z0, z1, z2, z3, z4, z5) (zeros-lane i)
+  clean-lacks z i l = sym (lane-lacks i l) ∙ ap (lane_of i) z ∙ zeros-lane i
 
   -- a lane fails exactly if it lacks something
   pub failing-lacks : (i : ℕ) → failing os i ≡ not (eqb (syndrome (lane_of i os)) 0)

@@ -7,12 +7,13 @@ use Prim.Native.Nat.{ℕ, zero, suc, ◌+◌, ◌-◌, ◌^◌, ◌≤◌, ◌<�
 use native.Mathlib.Nat.{add-zero, lt_irrefl}
 use native.Mathlib.Numerals.{add-one}
 use native.Mathlib.Omega.{arith}
-use borrow.Author.Tests.{eq-eqb, ne_eqb, lt-ltb, le-ltb}
+use borrow.Author.Tests.{eq-eqb, ne_eqb}
 use lib.Dec.{eqb}
 use lib.Pow.{pow_pos, pow-lt}
 use lib.ListN.{length, get_or, set, take, drop, get_or-append}
 use lib.Seq.{length-take-le, get_or-take, get_or-drop, get_or-append-add}
 use lib.Bits.{bit_xor, xor_lt, xor_self}
+use Rattle.std.specs.Prelude.{Option, Some, None}
 use Rattle.bits.specs.Pick.{pick}
 use Rattle.bits.specs.Row.{little, digit, Below}
 use Rattle.bits.proofs.Tests.{order}
@@ -35,7 +36,7 @@ use Rattle.codes.proofs.CheckLaws.{length-lanes, get_or-lanes, map-lanes, map-la
 -- ---- one lane, by what it lacks
 
 module _ (lane : ℕ) (h : lane < 2 ^ 30) where
-  abbrev place : ℕ
+  abbrev place : Option ℕ
   place = place_for (syndrome lane)
 
   by-lacking : repaired lane ≡ pick (eqb (syndrome lane) 0) (accepted lane) (at_place lane place)
@@ -44,12 +45,12 @@ module _ (lane : ℕ) (h : lane < 2 ^ 30) where
   pub none-lacking : syndrome lane ≡ 0 → repaired lane ≡ accepted lane
   none-lacking e = by-lacking ∙ rw (eq-eqb (syndrome lane) 0 e)
 
-  pub one-lacking : (syndrome lane ≡ 0 → ⊥) → place < 30 → repaired lane ≡ accepted (bit_xor lane (2 ^ place))
+  pub one-lacking : (syndrome lane ≡ 0 → ⊥) → (k : ℕ) → place ≡ Some k → repaired lane ≡ accepted (bit_xor lane (2 ^ k))
   unfolding flip
-  one-lacking n l = by-lacking ∙ rw (ne_eqb (syndrome lane) 0 n, lt-ltb place 30 l)
+  one-lacking n k e = by-lacking ∙ rw (ne_eqb (syndrome lane) 0 n, e)
 
-  pub too-much-lacking : (syndrome lane ≡ 0 → ⊥) → 30 ≤ place → repaired lane ≡ refused 15 0
-  too-much-lacking n l = by-lacking ∙ rw (ne_eqb (syndrome lane) 0 n, le-ltb place 30 l)
+  pub too-much-lacking : (syndrome lane ≡ 0 → ⊥) → place ≡ None → repaired lane ≡ refused 15 0
+  too-much-lacking n e = by-lacking ∙ rw (ne_eqb (syndrome lane) 0 n, e)
 
 -- the lane with a place inverted is another one
 inverted-differs : (lane k : ℕ) → eqb (bit_xor lane (2 ^ k)) lane ≡ false

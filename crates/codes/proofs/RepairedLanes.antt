@@ -12,6 +12,7 @@ use lib.ListN.{length, length-append}
 use lib.Seq.{take_at}
 use borrow.Author.Tests.{eq-eqb}
 use lib.Bits.{bit_xor, xor_self}
+use Rattle.std.specs.Prelude.{Some, None}
 use Rattle.bits.specs.Pick.{first}
 use Rattle.bits.specs.Row.{Below}
 use Rattle.bits.proofs.Xor.{xor-four, ones-xor-le}
@@ -91,7 +92,7 @@ checked ds es h k =
     rw (eq-eqb (length (ds ++ es)) 30 n, take_at ds es 24 h)
 
 -- the first lane that fails
-pub first-failing-place : (os : List ℕ) → length os ≡ 30 → first_failing os ≡ first (failing os) 0 8 (λ i. i) 8
+pub first-failing-place : (os : List ℕ) → length os ≡ 30 → first_failing os ≡ first (failing os) 0 8 Some None
 unfolding first_failing
 first-failing-place os h = rw (eq-eqb (length os) 30 h)
 

@@ -78,7 +78,7 @@ six-below m a b c d e f ha hb hc hd he hf (suc (suc (suc (suc zero)))) = he
 six-below m a b c d e f ha hb hc hd he hf (suc (suc (suc (suc (suc zero))))) = hf
 six-below m a b c d e f ha hb hc hd he hf (suc (suc (suc (suc (suc (suc i)))))) = omega arith
 
-stepped-below : (ss : List ℕ) (d : ℕ) → Below (2 ^ 8) ss → d < 2 ^ 8 → Below (2 ^ 8) (stepped ss d)
+pub stepped-below : (ss : List ℕ) (d : ℕ) → Below (2 ^ 8) ss → d < 2 ^ 8 → Below (2 ^ 8) (stepped ss d)
 stepped-below ss d b h =
     let t = bit_xor (get_or ss 5 0) d in
     let l : bit_xor (get_or ss 5 0) d < 2 ^ 8 = xor_lt 8 (get_or ss 5 0) d (b 5) h in
@@ -89,11 +89,6 @@ stepped-below ss d b h =
 unfoldable pub fed_all : List ℕ → List ℕ → List ℕ
 fed_all ss [] = ss
 fed_all ss (d ∷ ds) = fed_all (stepped ss d) ds
-
-pub fed-below : (ss ds : List ℕ) → Below (2 ^ 8) ss → Below (2 ^ 8) ds → Below (2 ^ 8) (fed_all ss ds)
-unfolding fed_all
-fed-below ss [] b h = b
-fed-below ss (d ∷ ds) b h = fed-below (stepped ss d) ds (stepped-below ss d b (h 0)) (λ i. h (suc i))
 
 module _ (i : ℕ) where
   step-lane : (s0 s1 s2 s3 s4 s5 d : ℕ)

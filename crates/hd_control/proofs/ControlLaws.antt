@@ -1,8 +1,8 @@
 -- Laws of the ranges, of the values of a packet's words, and of what is read of them. Assumes nothing.
-use mathlib.Core.Path.{◌≡◌, refl, sym, ap, ap₂, ◌∙◌}
-use mathlib.Core.Bool.{true, false, ◌&&◌}
+use mathlib.Core.Path.{◌≡◌, refl, sym, ap, ◌∙◌}
+use mathlib.Core.Bool.{true, ◌&&◌}
 use mathlib.Core.List.{List, [], ◌∷◌, ◌++◌}
-use Prim.Native.Nat.{ℕ, zero, suc, ◌+◌, ◌-◌, ◌*◌, ◌/◌, ◌%◌, ◌^◌, ◌≤◌, ◌<◌}
+use Prim.Native.Nat.{ℕ, zero, suc, ◌+◌, ◌*◌, ◌%◌, ◌^◌, ◌≤◌, ◌<◌}
 use native.Mathlib.Omega.{arith}
 use borrow.Author.Tests.{leb-true, le-leb}
 use lib.Count.{ones}
@@ -17,13 +17,12 @@ use Rattle.anc.specs.Enclosed.{words_by, enclosed}
 use Rattle.anc.proofs.SumLaws.{opposed-none}
 use Rattle.anc.proofs.Enclosing.{length-words, length-enclosed}
 use Rattle.anc.proofs.Heads.{each-group, in_full, full-word}
-use Rattle.subframe.specs.Signed.{in_range, signed_of}
+use Rattle.subframe.specs.Signed.{in_range}
 use Rattle.subframe.proofs.SignedLaws.{code_lt}
 use Rattle.hd_control.specs.Control.{control_dids, control_dc, rule_of, delay_number, control_values, control_packet, delay_at, control_in}
 use Rattle.hd_control.specs.Write.{control_in_ranges}
-use Rattle.hd_control.specs.Inner.{ControlRanges, three_words, words_of_delay}
+use Rattle.hd_control.specs.Inner.{ControlRanges, words_of_delay}
 use Rattle.hd_control.specs.declared.Control.{Control}
-use Rattle.hd_control.specs.declared.Delay.{Delay}
 
 -- ---- the ranges
 
@@ -68,35 +67,7 @@ ranged c r =
       r.second-delay,
     )
 
--- by the delays, where the numbers are in range
-module _ (c : Control) (some : 1 ≤ c.group) (four : c.group ≤ 4) (number : c.frame ≤ 511) (code : c.rate ≤ 7) (flag : c.asynchronous ≤ 1)
-    (channels : c.active ≤ 15) (first-valid : c.valid12 ≤ 1) (second-valid : c.valid34 ≤ 1) where
-  numbers : (leb 1 c.group && leb c.group 4 && leb c.frame 511 && leb c.rate 7 && leb c.asynchronous 1 && leb c.active 15
-      && leb c.valid12 1 && leb c.valid34 1) ≡ true
-  numbers =
-      rw (
-        le-leb 1 c.group some,
-        le-leb c.group 4 four,
-        le-leb c.frame 511 number,
-        le-leb c.rate 7 code,
-        le-leb c.asynchronous 1 flag,
-        le-leb c.active 15 channels,
-        le-leb c.valid12 1 first-valid,
-        le-leb c.valid34 1 second-valid,
-      )
-
-  pub last-delay : in_range 26 c.delay12 ≡ true → in_range 26 c.delay34 ≡ control_in_ranges c
-  unfolding control_in_ranges
-  last-delay e = rw (numbers, e)
-
-  pub first-fails : in_range 26 c.delay12 ≡ false → false ≡ control_in_ranges c
-  unfolding control_in_ranges
-  first-fails e = rw (numbers, e)
-
 -- ---- DID, DBN and DC
-
-did-octet : (group : ℕ) → 1 ≤ group → group ≤ 4 → 0xE4 - group ≡ did_in control_dids group % 2 ^ 8
-did-octet = each-group (λ g. 0xE4 - g) (λ g. did_in control_dids g % 2 ^ 8) tt
 
 pub did-group : (group : ℕ) → 1 ≤ group → group ≤ 4 → group_in control_dids (did_in control_dids group) ≡ group
 unfolding first
@@ -119,17 +90,16 @@ dc-word = full-word control_dc refl
 
 -- ---- the words as they are laid
 
-module _ (c : Control) (r : ControlRanges c) (a b : Delay) (did frame rate active : ℕ) where
-  pub words-laid : did ≡ word_of (0xE4 - c.group) → frame ≡ opposed (c.frame % 2 ^ 9) → rate ≡ opposed ((c.asynchronous + c.rate * 2) % 2 ^ 9)
-      → active ≡ word_of c.active → three_words a ≡ words_of_delay (delay_number c.valid12 c.delay12)
-      → three_words b ≡ words_of_delay (delay_number c.valid34 c.delay34)
-      → did ∷ 0x200 ∷ 0x10B ∷ frame ∷ rate ∷ active ∷ (three_words a ++ three_words b ++ (0x200 ∷ 0x200 ∷ [])) ≡ words_by rule_of 3 (control_values c)
+module _ (c : Control) (r : ControlRanges c) (a b : List ℕ) (frame rate active : ℕ) where
+  pub words-laid : frame ≡ opposed (c.frame % 2 ^ 9) → rate ≡ opposed ((c.asynchronous + c.rate * 2) % 2 ^ 9)
+      → active ≡ word_of c.active → a ≡ words_of_delay (delay_number c.valid12 c.delay12)
+      → b ≡ words_of_delay (delay_number c.valid34 c.delay34)
+      → did_in control_dids c.group ∷ 0x200 ∷ 0x10B ∷ frame ∷ rate ∷ active ∷ (a ++ b ++ (0x200 ∷ 0x200 ∷ [])) ≡ words_by rule_of 3 (control_values c)
   unfolding control_values
-  words-laid d f s v p q =
+  words-laid f s v p q =
       let e : c.frame % 2 ^ 9 ≡ c.frame = omega (arith, r.number) in
       let g : (c.asynchronous + c.rate * 2) % 2 ^ 9 ≡ c.asynchronous + c.rate * 2 = omega (arith, r.code, r.use-flag) in
-      ap₂ (λ (x y : List ℕ). did ∷ 0x200 ∷ 0x10B ∷ frame ∷ rate ∷ active ∷ (x ++ y ++ (0x200 ∷ 0x200 ∷ []))) p q
-      ∙ rw (d ∙ ap word_of (did-octet c.group r.some r.four), f ∙ ap opposed e, s ∙ ap opposed g, v, dbn-word, dc-word, opposed-none)
+      rw (p, q, f ∙ ap opposed e, s ∙ ap opposed g, v, did-word c.group r.some r.four, dbn-word, dc-word, opposed-none)
 
 pub packet-of : (c : Control) → enclosed (words_by rule_of 3 (control_values c)) ≡ control_packet c
 unfolding control_packet
@@ -172,22 +142,6 @@ values-fit c r (suc (suc (suc (suc (suc (suc (suc (suc (suc (suc (suc (suc (suc 
 pub delay-lt : (words : List ℕ) (k : ℕ) → delay_at words k < 2 ^ 27
 unfolding delay_at
 delay-lt words k = omega arith
-
-pub made : (words : List ℕ) (group first second : ℕ) (d e : ℤ) → group ≡ (control_in words).group → first ≡ delay_at words 9
-    → second ≡ delay_at words 12 → d ≡ signed_of 26 (first / 2) → e ≡ signed_of 26 (second / 2)
-    → record {
-      group = group;
-      frame = get_or words 6 0 % 2 ^ 9;
-      rate = get_or words 7 0 / 2 % 2 ^ 3;
-      asynchronous = get_or words 7 0 % 2;
-      active = get_or words 8 0 % 2 ^ 4;
-      valid12 = first % 2;
-      delay12 = d;
-      valid34 = second % 2;
-      delay34 = e;
-    } ≡ control_in words
-unfolding control_in
-made words group first second d e p q r s t = rw (s, t, q, r, p)
 
 pub group-in : (words : List ℕ) → (control_in words).group ≡ group_in control_dids (get_or words 3 0)
 unfolding control_in

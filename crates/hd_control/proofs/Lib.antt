@@ -4,3 +4,4 @@ pub mod WrittenRead
 pub mod ReadWritten
 pub mod Residue
 pub mod Said
+pub mod Reading

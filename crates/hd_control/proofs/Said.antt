@@ -1,11 +1,10 @@
--- The reader's enum says an answer in one way only. Assumes nothing.
+-- What the reader returns says an answer in one way only. Assumes nothing.
 use mathlib.Core.Path.{◌≡◌}
-use Rattle.hd_control.specs.Read.{control_said}
-use Rattle.hd_control.specs.declared.ControlAnswer.{ControlAnswer}
-use Rattle.hd_control.specs.declared.ControlAnswer.TheVariants.{Read, Refused}
+use Rattle.std.specs.Prelude.{Result}
+use Rattle.answer.specs.Said.{said}
+use Rattle.answer.specs.declared.Refusal.{Refusal}
+use Rattle.answer.proofs.Said.{said-once}
+use Rattle.hd_control.specs.declared.Control.{Control}
 
-pub control-said-once : (a b : ControlAnswer) → control_said a ≡ control_said b → a ≡ b
-control-said-once (Read f) (Read g) e = cc
-control-said-once (Read f) (Refused m q) e = cc
-control-said-once (Refused n p) (Read g) e = cc
-control-said-once (Refused n p) (Refused m q) e = cc
+pub control-said-once : (a b : Result Control Refusal) → said a ≡ said b → a ≡ b
+control-said-once = said-once

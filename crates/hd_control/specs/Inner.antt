@@ -1,15 +1,11 @@
 -- What only the functions inside need. Assumes nothing.
-use Rattle.std.specs.Prelude.{ℕ, ◌+◌, ◌≤◌, ◌≡◌, true, List, [], ◌∷◌, map}
-use Rattle.bits.specs.Pick.{first}
+use Rattle.std.specs.Prelude.{ℕ, ◌≤◌, ◌≡◌, true, List, map}
 use Rattle.answer.specs.Answer.{Answer, Answer.accepted}
-use Rattle.answer.specs.Demand.{Demand.asks, Demand.finds_none, provided}
-use Rattle.anc.specs.Word.{opposed, wrong_at}
-use Rattle.anc.specs.Enclosed.{sum_stands}
+use Rattle.answer.specs.Demand.{Demand, provided}
+use Rattle.anc.specs.Word.{opposed}
 use Rattle.subframe.specs.Signed.{in_range}
-use Rattle.hd_control.specs.Control.{rule_of, delay_words, control_in}
-use Rattle.hd_control.specs.Read.{state_demands}
+use Rattle.hd_control.specs.Control.{delay_words}
 use Rattle.hd_control.specs.declared.Control.{Control}
-use Rattle.hd_control.specs.declared.Delay.{Delay}
 
 -- what the ranges say
 pub record ControlRanges (c : Control) : Type 0 where
@@ -24,18 +20,10 @@ pub record ControlRanges (c : Control) : Type 0 where
   pub first-delay : in_range 26 c.delay12 ≡ true
   pub second-delay : in_range 26 c.delay34 ≡ true
 
--- the words of a delay as a list; each has nine bits of value
-abbrev pub three_words : Delay → List ℕ
-three_words r = r.first ∷ r.second ∷ r.third ∷ []
-
+-- the words of a delay; each has nine bits of value
 abbrev pub words_of_delay : ℕ → List ℕ
 words_of_delay d = map opposed (delay_words d)
 
--- the first of words 3 to 16 whose b8 or b9 is wrong, counted from word 3; or 14
-unfoldable pub first_wrong_by_rule : List ℕ → ℕ
-first_wrong_by_rule ws = first (λ i. wrong_at rule_of ws (3 + i)) 0 14 (λ i. i) 14
-
--- what is read of 18 words of ten bits with a right head
-unfoldable pub headed_read : List ℕ → Answer Control
-headed_read words =
-    provided (finds_none 14 (wrong_at rule_of words) 3 14 ∷ asks 16 17 (sum_stands 14 words) ∷ state_demands words) (accepted (control_in words))
+-- what a check of demands answers: nothing, or the refusal of the first that is not met
+abbrev pub checked : List Demand → Answer (Unit {0})
+checked ds = provided ds (accepted tt)

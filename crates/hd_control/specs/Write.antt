@@ -1,5 +1,5 @@
--- Writing an HD audio control packet: the length (1), ranges (2), a frame number in asynchronous use (12 at word 6), a reserved rate code
--- (12 at word 7). Assumes nothing.
+-- Writing an HD audio control packet: the length (1), ranges (2), a frame number in asynchronous use (12 at word 6), a
+-- reserved rate code (12 at word 7). Assumes nothing.
 use Rattle.std.specs.Prelude.{ℕ, Bool, not, ◌&&◌, List, [], ◌∷◌, eqb, leb, length}
 use Rattle.answer.specs.Answer.{Answer, Answer.accepted, rewritten}
 use Rattle.answer.specs.Demand.{Demand, Demand.asks, provided}
@@ -15,7 +15,11 @@ control_in_ranges c =
 
 abbrev pub write_demands : Control → ℕ → List Demand
 write_demands c room =
-    asks 1 0 (eqb room 18) ∷ asks 2 0 (control_in_ranges c) ∷ asks 12 6 (not (misused c.asynchronous c.frame)) ∷ asks 12 7 (not (rate_reserved c.rate)) ∷ []
+    asks 1 0 (eqb room 18)
+    ∷ asks 2 0 (control_in_ranges c)
+    ∷ asks 12 6 (not (misused c.asynchronous c.frame))
+    ∷ asks 12 7 (not (rate_reserved c.rate))
+    ∷ []
 
 unfoldable pub write_answer : Control → ℕ → Answer (List ℕ)
 write_answer c room = provided (write_demands c room) (accepted (control_packet c))

@@ -6,9 +6,11 @@ use Prim.Native.Nat.{ℕ, zero, suc, ◌+◌, ◌*◌, ◌/◌, ◌%◌, ◌^◌
 use native.Mathlib.Nat.{add-zero}
 use native.Mathlib.Omega.{arith}
 use borrow.Author.Tests.{eq-eqb, ne_eqb, eqb-true, not-false}
+use mir.Syntax.{w32}
 use lib.Dec.{lit<}
 use lib.Pow.{high, low, shl-shr}
-use lib.ListN.{length, get_or, set}
+use lib.ListN.{length, get_or}
+use Rattle.std.specs.Int.{from_le_bytes}
 use Rattle.bits.specs.Row.{bit, Below}
 use Rattle.subframe.specs.Body.{parity_of, even_body}
 use Rattle.hd_packet.specs.Packet.{channel_octets, with_z, body_at, bodies_in, odd_body}
@@ -61,10 +63,11 @@ pub body-low : (os : List ℕ) (k : ℕ) → body_at os k % 2 ^ 4 ≡ 0
 unfolding body_at
 body-low os k = omega arith
 
-pub body_of : (os : List ℕ) (k : ℕ)
-    → get_or os k 0 / 2 ^ 4 * 2 ^ 4 + get_or os (k + 1) 0 * 2 ^ 8 + get_or os (k + 2) 0 * 2 ^ 16 + get_or os (k + 3) 0 * 2 ^ 24 ≡ body_at os k
+-- the number of its four octets without its low four bits
+pub body_of : (os : List ℕ) (k n : ℕ)
+    → n ≡ from_le_bytes w32 (get_or os k 0 ∷ get_or os (k + 1) 0 ∷ get_or os (k + 2) 0 ∷ get_or os (k + 3) 0 ∷ []) → n / 16 * 16 ≡ body_at os k
 unfolding body_at
-body_of os k = refl
+body_of os k n e = omega arith
 
 -- channel n, from octet 8 + 4 n on
 pub body-in : (os : List ℕ) (n : ℕ) → n < 4 → get_or (bodies_in os) n 0 ≡ body_at os (8 + 4 * n)
@@ -75,23 +78,14 @@ body-in os (suc (suc zero)) h = refl
 body-in os (suc (suc (suc zero))) h = refl
 body-in os (suc (suc (suc (suc n)))) h = absurd (omega arith)
 
+-- the bodies one by one
+pub bodies-of : (os : List ℕ) → body_at os 8 ∷ body_at os 12 ∷ body_at os 16 ∷ body_at os 20 ∷ [] ≡ bodies_in os
+unfolding bodies_in
+bodies-of os = refl
+
 pub four-bodies : (os : List ℕ) → length (bodies_in os) ≡ 4
 unfolding bodies_in
 four-bodies os = refl
-
--- four stores
-four-stored : (old : List ℕ) (a b c d : ℕ) → length old ≡ 4 → set (set (set (set old 0 a) 1 b) 2 c) 3 d ≡ a ∷ b ∷ c ∷ d ∷ []
-four-stored [] a b c d h = absurd (omega arith)
-four-stored (w ∷ []) a b c d h = absurd (omega arith)
-four-stored (w ∷ x ∷ []) a b c d h = absurd (omega arith)
-four-stored (w ∷ x ∷ y ∷ []) a b c d h = absurd (omega arith)
-four-stored (w ∷ x ∷ y ∷ z ∷ []) a b c d h = refl
-four-stored (w ∷ x ∷ y ∷ z ∷ v ∷ old) a b c d h = absurd (omega arith)
-
-pub bodies-stored : (os old : List ℕ) (a b c d : ℕ) → length old ≡ 4 → a ≡ body_at os 8 → b ≡ body_at os 12 → c ≡ body_at os 16
-    → d ≡ body_at os 20 → set (set (set (set old 0 a) 1 b) 2 c) 3 d ≡ bodies_in os
-unfolding bodies_in
-bodies-stored os old a b c d h p q r s = four-stored old a b c d h ∙ rw (p, q, r, s)
 
 -- ---- the body of its own octets
 
@@ -176,6 +170,10 @@ module _ (os : List ℕ) (b : Below (2 ^ 8) os) (k : ℕ) where
 -- ---- odd bodies
 
 module _ (bodies : List ℕ) (n : ℕ) where
+  pub odd-not-even : odd_body bodies n ≡ not (even_body (get_or bodies n 0))
+  unfolding odd_body
+  odd-not-even = refl
+
   pub odd-found : (parity_of (get_or bodies n 0) ≡ 0 → ⊥) → odd_body bodies n ≡ true
   unfolding odd_body
   odd-found e = ap not (ne_eqb (parity_of (get_or bodies n 0)) 0 e)

@@ -16,6 +16,10 @@ use Rattle.hd_packet.proofs.Channels.{below-append, channel-below, marked-below,
 
 -- ---- the octets that are written
 
+-- the four octets of a channel, one by one, before others
+abbrev four-of : List ℕ → List ℕ → List ℕ
+four-of w rest = get_or w 0 0 ∷ get_or w 1 0 ∷ get_or w 2 0 ∷ get_or w 3 0 ∷ rest
+
 module _ (f : Fields) (bodies : List ℕ) where
   abbrev body : ℕ → ℕ
   body n = get_or bodies n 0
@@ -24,17 +28,12 @@ module _ (f : Fields) (bodies : List ℕ) where
   unfolding data_octets channel_octets
   length-data = refl
 
-  -- four bodies are what counts
-  pub data-of-four : data_octets f (body 0 ∷ body 1 ∷ body 2 ∷ body 3 ∷ []) ≡ data_octets f bodies
-  unfolding data_octets
-  data-of-four = refl
-
-  -- the octets one by one
+  -- word by word, from the octets of the channels
   pub data-octets : (w x y z : List ℕ) → w ≡ with_z f.z1 (channel_octets (body 0)) → x ≡ channel_octets (body 1)
       → y ≡ with_z f.z2 (channel_octets (body 2)) → z ≡ channel_octets (body 3)
       → 0x00 ∷ 0xFF ∷ 0xFF ∷ did f.group % 2 ^ 8 ∷ f.dbn ∷ dc % 2 ^ 8 ∷ f.phase % 2 ^ 8 ∷ (f.phase / 2 ^ 8 + f.ck12 * 2 ^ 4)
-      ∷ (w ++ x ++ y ++ z) ≡ data_octets f bodies
-  unfolding data_octets
+      ∷ four-of w (four-of x (four-of y (four-of z []))) ≡ data_octets f bodies
+  unfolding data_octets channel_octets
   data-octets w x y z p q r s = rw (p, q, r, s)
 
   abbrev rest : List ℕ

@@ -1,5 +1,6 @@
--- Repairing an HD audio data packet: 31 words into another 31. Lengths (1), words above 1,023 (14), the first lane that lane repair
--- refuses (15), then an ADF that is not 00h, FFh, FFh (13). b8, b9 and CS are built anew, the ADF whole. Assumes nothing.
+-- Repairing an HD audio data packet: 31 words into another 31. Lengths (1), words above 1,023 (14), the first lane that
+-- lane repair refuses (15), then an ADF that is not 00h, FFh, FFh (13). b8, b9 and CS are built anew, the ADF whole.
+-- Assumes nothing.
 use Rattle.std.specs.Prelude.{ℕ, List, [], ◌∷◌, eqb, length}
 use Rattle.answer.specs.Answer.{Answer, Answer.accepted, after}
 use Rattle.answer.specs.Demand.{Demand, Demand.asks, Demand.finds_none, provided}

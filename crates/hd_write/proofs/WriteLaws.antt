@@ -2,9 +2,9 @@
 use mathlib.Core.Path.{◌≡◌, refl, sym, ap, ◌∙◌}
 use mathlib.Core.Bool.{true, false, not, ◌&&◌}
 use mathlib.Core.List.{List, ◌++◌}
-use Prim.Native.Nat.{ℕ, ◌%◌, ◌^◌, ◌≤◌, ◌<◌}
+use Prim.Native.Nat.{ℕ, ◌%◌, ◌^◌, ◌<◌}
 use native.Mathlib.Omega.{arith}
-use borrow.Author.Tests.{eq-eqb, ne_eqb, eqb-true, leb-true, le-leb, not-false}
+use borrow.Author.Tests.{eq-eqb, eqb-true, leb-true, le-leb, not-false}
 use lib.Dec.{eqb, leb}
 use lib.ListN.{length, get_or, length-append}
 use Rattle.bits.specs.Row.{Below}
@@ -23,10 +23,6 @@ use Rattle.hd_packet.proofs.PacketLaws.{length-packet, octets-packet}
 use Rattle.hd_write.specs.Write.{in_ranges, low_body, packet_written, write_demands, write_answer, words_written}
 
 -- ---- the tests of a body
-
-pub low-true : (bodies : List ℕ) (i : ℕ) → (get_or bodies i 0 % 16 ≡ 0 → ⊥) → low_body bodies i ≡ true
-unfolding low_body
-low-true bodies i n = ap not (ne_eqb _ 0 n)
 
 pub low-false : (bodies : List ℕ) (i : ℕ) → get_or bodies i 0 % 16 ≡ 0 → low_body bodies i ≡ false
 unfolding low_body
@@ -70,20 +66,6 @@ ranged f r =
       le-leb f.ck12 1 r.top,
       le-leb f.z1 1 r.first-pair,
       le-leb f.z2 1 r.second-pair,
-    )
-
--- by the last, where the others hold
-pub last-range : (f : Fields) → 1 ≤ f.group → f.group ≤ 4 → f.dbn ≤ 255 → f.phase ≤ 4095 → f.ck12 ≤ 1 → f.z1 ≤ 1
-    → leb f.z2 1 ≡ in_ranges f
-unfolding in_ranges
-last-range f a b c d e g =
-    rw (
-      le-leb 1 f.group a,
-      le-leb f.group 4 b,
-      le-leb f.dbn 255 c,
-      le-leb f.phase 4095 d,
-      le-leb f.ck12 1 e,
-      le-leb f.z1 1 g,
     )
 
 -- ---- the packet

@@ -1,4 +1,5 @@
--- Writing an HD audio data packet: lengths (1), ranges (2), odd bodies (9), bodies with a low four bit set (12). Assumes nothing.
+-- Writing an HD audio data packet: lengths (1), ranges (2), odd bodies (9), bodies with a low four bit set (12).
+-- Assumes nothing.
 use Rattle.std.specs.Prelude.{ℕ, ◌%◌, ◌^◌, Bool, not, ◌&&◌, List, [], ◌∷◌, ◌++◌, eqb, leb, length, get_or}
 use Rattle.answer.specs.Answer.{Answer, Answer.accepted, rewritten}
 use Rattle.answer.specs.Demand.{Demand, Demand.asks, Demand.finds_none, provided}

@@ -1,14 +1,16 @@
 // HD audio control packets.
 ghost use Rattle.std.specs.Prelude.{◌≡◌, length};
 ghost use Rattle.answer.specs.Answer.{verdict};
+ghost use Rattle.answer.specs.Said.{said};
 ghost use Rattle.hd_control.specs.Write.{write_answer};
 ghost use Rattle.hd_control.specs.Write.{control_written};
-ghost use Rattle.hd_control.specs.Read.{read_answer, control_said};
+ghost use Rattle.hd_control.specs.Read.{read_answer};
 ghost use Rattle.lampcoil.specs.Told.{told_verdict};
 ghost use Rattle.lampcoil.specs.Control.{told_control, control_lent};
 
-use crate::{Told, answers};
-use hd_control::{Control, ControlAnswer};
+use crate::Told;
+use answer::Refusal;
+use hd_control::Control;
 
 // The fields of a control packet; a delay has 26 bits.
 #[repr(C)]
@@ -27,36 +29,38 @@ pub struct ToldControl {
     pub delay34: i32,
 }
 
-pub fn control(a: ControlAnswer) -> ToldControl
-    ensures { result ≡ told_control (control_said a) }
-{
-    match a {
-        ControlAnswer::Read(c) => ToldControl {
-            number: 0,
-            place: 0,
-            group: c.group,
-            frame: c.frame,
-            rate: c.rate,
-            asynchronous: c.asynchronous,
-            active: c.active,
-            valid12: c.valid12,
-            delay12: c.delay12,
-            valid34: c.valid34,
-            delay34: c.delay34,
-        },
-        ControlAnswer::Refused { number, place } => ToldControl {
-            number,
-            place,
-            group: 0,
-            frame: 0,
-            rate: 0,
-            asynchronous: 0,
-            active: 0,
-            valid12: 0,
-            delay12: 0,
-            valid34: 0,
-            delay34: 0,
-        },
+impl From<Result<Control, Refusal>> for ToldControl {
+    ghost from_gives = { λ a t. t ≡ told_control (said a) };
+
+    fn from(a: Result<Control, Refusal>) -> ToldControl {
+        match a {
+            Ok(c) => ToldControl {
+                number: 0,
+                place: 0,
+                group: c.group,
+                frame: c.frame,
+                rate: c.rate,
+                asynchronous: c.asynchronous,
+                active: c.active,
+                valid12: c.valid12,
+                delay12: c.delay12,
+                valid34: c.valid34,
+                delay34: c.delay34,
+            },
+            Err(refusal) => ToldControl {
+                number: refusal.number(),
+                place: refusal.place(),
+                group: 0,
+                frame: 0,
+                rate: 0,
+                asynchronous: 0,
+                active: 0,
+                valid12: 0,
+                delay12: 0,
+                valid34: 0,
+                delay34: 0,
+            },
+        }
     }
 }
 
@@ -88,7 +92,7 @@ pub extern "C" fn lampcoil_hd_control_write(
         valid34,
         delay34,
     };
-    answers::verdict(hd_control::write_control(fields, words))
+    hd_control::write_control(fields, words).into()
 }
 
 // The fields of a control packet.
@@ -96,5 +100,5 @@ pub extern "C" fn lampcoil_hd_control_write(
 pub extern "C" fn lampcoil_hd_control_read(words: &[u16]) -> ToldControl
     ensures { result ≡ told_control (read_answer words.now) }
 {
-    control(hd_control::read_control(words))
+    hd_control::read_control(words).into()
 }

@@ -1,14 +1,15 @@
 // The lease table, as C calls it.
 ghost use Rattle.std.specs.Prelude.{◌≡◌, length};
 ghost use Rattle.answer.specs.Answer.{mapped};
+ghost use Rattle.answer.specs.Said.{said};
 ghost use Rattle.leases.specs.Table.{slots_of};
-ghost use Rattle.leases.specs.Calls.{ask_answer, ask_table, back_answer, back_table, lease_said};
+ghost use Rattle.leases.specs.Calls.{ask_answer, ask_table, back_answer, back_table};
 ghost use Rattle.leases.specs.Calls.{close_answer, leased_count, close_table, close_moves};
 ghost use Rattle.lampcoil.specs.Told.{told_number};
 ghost use Rattle.lampcoil.specs.Slots.{told_slots};
 
-use crate::{ToldNumber, answers};
-use leases::LeaseAnswer;
+use crate::ToldNumber;
+use answer::Refusal;
 
 // A tenant's slots: bit k is 1 where slot k is the tenant's after the call.
 #[repr(C)]
@@ -19,20 +20,22 @@ pub struct ToldSlots {
     pub slots: u64,
 }
 
-fn slots(a: LeaseAnswer) -> ToldSlots
-    ensures { result ≡ told_slots (lease_said a) }
-{
-    match a {
-        LeaseAnswer::Held(slots) => ToldSlots {
-            number: 0,
-            place: 0,
-            slots,
-        },
-        LeaseAnswer::Refused { number, place } => ToldSlots {
-            number,
-            place,
-            slots: 0,
-        },
+impl From<Result<u64, Refusal>> for ToldSlots {
+    ghost from_gives = { λ a t. t ≡ told_slots (said a) };
+
+    fn from(a: Result<u64, Refusal>) -> ToldSlots {
+        match a {
+            Ok(slots) => ToldSlots {
+                number: 0,
+                place: 0,
+                slots,
+            },
+            Err(refusal) => ToldSlots {
+                number: refusal.number(),
+                place: refusal.place(),
+                slots: 0,
+            },
+        }
     }
 }
 
@@ -42,7 +45,7 @@ pub extern "C" fn lampcoil_lease_ask(table: &mut [u8], tenant: u32, n: u32) -> T
     ensures value { result ≡ told_slots (mapped (slots_of tenant) (ask_answer tenant n table.old)) }
     ensures table_after { table.new ≡ ask_table tenant n table.old }
 {
-    slots(leases::ask(table, tenant, n))
+    leases::ask(table, tenant, n).into()
 }
 
 // A tenant gives back all of its own.
@@ -51,7 +54,7 @@ pub extern "C" fn lampcoil_lease_return(table: &mut [u8], tenant: u32) -> ToldSl
     ensures value { result ≡ told_slots (mapped (slots_of tenant) (back_answer tenant table.old)) }
     ensures table_after { table.new ≡ back_table tenant table.old }
 {
-    slots(leases::give_back(table, tenant))
+    leases::give_back(table, tenant).into()
 }
 
 // The house closes the gaps, and gets the old and the new position of each leased slot.
@@ -61,5 +64,5 @@ pub extern "C" fn lampcoil_lease_close(table: &mut [u8], moves: &mut [u8]) -> To
     ensures table_after { table.new ≡ close_table (length moves.old) table.old }
     ensures moves_after { moves.new ≡ close_moves table.old moves.old }
 {
-    answers::number(leases::close(table, moves))
+    leases::close(table, moves).into()
 }

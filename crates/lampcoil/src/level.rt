@@ -4,7 +4,7 @@ ghost use Rattle.answer.specs.Answer.{verdict};
 ghost use Rattle.levels.specs.Calls.{as_block, start_answer, start_left, join_answer, join_left, add_answer, add_left};
 ghost use Rattle.lampcoil.specs.Told.{told_verdict};
 
-use crate::{Told, answers};
+use crate::Told;
 
 // The sheet of no blocks.
 #[unsafe(no_mangle)]
@@ -12,7 +12,7 @@ pub extern "C" fn lampcoil_level_start(sheet: &mut [i64]) -> Told
     ensures value { result ≡ told_verdict (verdict (start_answer sheet.old)) }
     ensures sheet_after { sheet.new ≡ start_left sheet.old }
 {
-    answers::verdict(levels::start(sheet))
+    levels::start(sheet).into()
 }
 
 // One block more in the sheet.
@@ -21,7 +21,7 @@ pub extern "C" fn lampcoil_level_add(sheet: &mut [i64], samples: &[i32], side: &
     ensures value { result ≡ told_verdict (verdict (add_answer sheet.old (as_block samples.now side.now))) }
     ensures sheet_after { sheet.new ≡ add_left sheet.old (as_block samples.now side.now) }
 {
-    answers::verdict(levels::add(sheet, samples, side))
+    levels::add(sheet, samples, side).into()
 }
 
 // The sheet of two stretches in place of that of the first.
@@ -30,5 +30,5 @@ pub extern "C" fn lampcoil_level_join(sheet: &mut [i64], later: &[i64]) -> Told
     ensures value { result ≡ told_verdict (verdict (join_answer sheet.old later.now)) }
     ensures sheet_after { sheet.new ≡ join_left sheet.old later.now }
 {
-    answers::verdict(levels::join(sheet, later))
+    levels::join(sheet, later).into()
 }

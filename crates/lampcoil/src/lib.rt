@@ -6,6 +6,7 @@
 
 ghost use Rattle.std.specs.Prelude.{◌≡◌, length};
 ghost use Rattle.answer.specs.Answer.{Answer.accepted, mapped, verdict, after, rewritten};
+ghost use Rattle.answer.specs.Said.{said};
 ghost use Rattle.subframe.specs.Body.{body_written, body_read};
 ghost use Rattle.codes.specs.Crcc.{stages_fed, stages_sent, seal_answer, sealed};
 ghost use Rattle.codes.specs.Edit.{edit_answer, edited};
@@ -36,10 +37,10 @@ mod patch;
 mod version;
 mod voice;
 
+use answer::Refusal;
 use hd_packet::Fields;
-use subframe::FieldsAnswer;
 
-// ---- what C receives
+// ---- what C receives. No more derives: C alone receives these structs, and nothing here compares or prints them.
 
 // Number and place, where an operation has no value.
 #[repr(C)]
@@ -141,7 +142,7 @@ pub struct ToldPacket {
 pub extern "C" fn lampcoil_body_write(sample: i32, v: u32, u: u32, c: u32) -> ToldNumber
     ensures { result ≡ told_number (body_written sample v u c) }
 {
-    answers::number(subframe::write_body(sample, v, u, c))
+    subframe::write_body(sample, v, u, c).into()
 }
 
 // The sample and V, U and C of a body.
@@ -149,24 +150,7 @@ pub extern "C" fn lampcoil_body_write(sample: i32, v: u32, u: u32, c: u32) -> To
 pub extern "C" fn lampcoil_body_read(body: u32) -> ToldBody
     ensures { result ≡ told_body (body_read body) }
 {
-    match subframe::read_body(body) {
-        FieldsAnswer::Fields { sample, v, u, c } => ToldBody {
-            number: 0,
-            place: 0,
-            sample,
-            v,
-            u,
-            c,
-        },
-        FieldsAnswer::Refused { number, place } => ToldBody {
-            number,
-            place,
-            sample: 0,
-            v: 0,
-            u: 0,
-            c: 0,
-        },
-    }
+    subframe::read_body(body).into()
 }
 
 // ---- channel status
@@ -177,7 +161,7 @@ pub extern "C" fn lampcoil_status_seal(status: &mut [u8]) -> Told
     ensures value { result ≡ told_verdict (verdict (seal_answer status.old)) }
     ensures status_after { status.new ≡ sealed status.old }
 {
-    answers::verdict(codes::seal(status))
+    codes::seal(status).into()
 }
 
 // Writes one byte, of 0 to 22, of 24 octets of status whose CRCC is right, and byte 23 after it.
@@ -186,33 +170,25 @@ pub extern "C" fn lampcoil_status_edit(status: &mut [u8], byte: u32, value: u32)
     ensures value { result ≡ told_verdict (verdict (edit_answer status.old byte value)) }
     ensures status_after { status.new ≡ edited status.old byte value }
 {
-    answers::verdict(codes::status_edit(status, byte, value))
+    codes::status_edit(status, byte, value).into()
 }
 
-// Whether the CRCC of 24 octets of status is right.
+// Whether the CRCC of 24 octets of status is right: 1, else 0.
+fn status_right(status: &[u8]) -> Result<u32, Refusal>
+    ensures { said result ≡ right_answer status.now }
+{
+    if status.len() != 24 {
+        return Err(Refusal::Length);
+    }
+    Ok(codes::crcc_right(status) as u32)
+}
+
+// The same for C.
 #[unsafe(no_mangle)]
 pub extern "C" fn lampcoil_status_right(status: &[u8]) -> ToldNumber
     ensures { result ≡ told_number (right_answer status.now) }
 {
-    if status.len() != 24 {
-        return ToldNumber {
-            number: 1,
-            place: 0,
-            value: 0,
-        };
-    }
-    if codes::crcc_right(status) {
-        return ToldNumber {
-            number: 0,
-            place: 0,
-            value: 1,
-        };
-    }
-    ToldNumber {
-        number: 0,
-        place: 0,
-        value: 0,
-    }
+    status_right(status).into()
 }
 
 // What 24 octets of status say of use, audio, emphasis, lock, rate, mode, user bits, auxiliary bits, word length and alignment.
@@ -221,7 +197,7 @@ pub extern "C" fn lampcoil_status_read(status: &[u8]) -> ToldMeaning
     ensures { result ≡ told_meaning (meaning_answer status.now) }
 {
     if status.len() != 24 {
-        return answers::meaning(1, status::meaning_numbers(0, 0, 0));
+        return answers::meaning(Refusal::Length.number(), status::meaning_numbers(0, 0, 0));
     }
     answers::meaning(0, status::meaning_numbers(status[0], status[1], status[2]))
 }
@@ -244,7 +220,7 @@ pub extern "C" fn lampcoil_crcc_start() -> ToldNumber
 pub extern "C" fn lampcoil_crcc_feed(stages: u32, bit: u32) -> ToldNumber
     ensures { result ≡ told_number (stages_fed stages bit) }
 {
-    answers::number(codes::crcc_fed(stages, bit))
+    codes::crcc_fed(stages, bit).into()
 }
 
 // Byte 23 from the CRCC's stages after bits 0 to 183.
@@ -252,7 +228,7 @@ pub extern "C" fn lampcoil_crcc_feed(stages: u32, bit: u32) -> ToldNumber
 pub extern "C" fn lampcoil_crcc_value(stages: u32) -> ToldNumber
     ensures { result ≡ told_number (stages_sent stages) }
 {
-    answers::number(codes::crcc_value(stages))
+    codes::crcc_value(stages).into()
 }
 
 // ---- lanes of the BT.1365 code
@@ -262,7 +238,7 @@ pub extern "C" fn lampcoil_crcc_value(stages: u32) -> ToldNumber
 pub extern "C" fn lampcoil_lane_repair(lane: u32) -> ToldNumber
     ensures { result ≡ told_number (repaired lane) }
 {
-    answers::number(codes::lane_repair(lane))
+    codes::lane_repair(lane).into()
 }
 
 // ---- AES3
@@ -278,7 +254,7 @@ pub extern "C" fn lampcoil_aes3_write(
     ensures value { result ≡ told_verdict (verdict (write_answer samples.now side.now level (length line.old))) }
     ensures line_after { line.new ≡ rewritten (write_answer samples.now side.now level (length line.old)) line.old }
 {
-    answers::verdict(aes3_write::write_block(samples, side, level, line))
+    aes3_write::write_block(samples, side, level, line).into()
 }
 
 // The table of biphase codings by octet, which the writer goes by and a card loads.
@@ -287,7 +263,7 @@ pub extern "C" fn lampcoil_biphase_table(table: &mut [u16]) -> Told
     ensures value { result ≡ told_verdict (verdict (table_laid (length table.old))) }
     ensures table_after { table.new ≡ rewritten (table_laid (length table.old)) table.old }
 {
-    answers::verdict(line::lay_biphase_table(table))
+    line::lay_biphase_table(table).into()
 }
 
 // The samples and the side table of a block, and whether the CRCC of each channel is right.
@@ -297,7 +273,7 @@ pub extern "C" fn lampcoil_aes3_read(line: &[u8], samples: &mut [i32], side: &mu
     ensures samples_after { samples.new ≡ after samples_of (read_answer line.now (length samples.old) (length side.old)) samples.old }
     ensures side_after { side.new ≡ after side_of (read_answer line.now (length samples.old) (length side.old)) side.old }
 {
-    answers::block(aes3_read::read_block(line, samples, side))
+    aes3_read::read_block(line, samples, side).into()
 }
 
 // Where the first block of a line starts, and how many symbols were compared.
@@ -305,7 +281,7 @@ pub extern "C" fn lampcoil_aes3_read(line: &[u8], samples: &mut [i32], side: &mu
 pub extern "C" fn lampcoil_aes3_find(line: &[u8]) -> ToldStart
     ensures { result ≡ told_start (bounded_hunt line.now) }
 {
-    answers::start(aes3_hunt::find_start(line))
+    aes3_hunt::find_start(line).into()
 }
 
 // The 3,072 octets of symbols that begin at a position, so that the block which the hunt found can be read.
@@ -314,7 +290,7 @@ pub extern "C" fn lampcoil_aes3_align(line: &[u8], position: u32, block: &mut [u
     ensures value { result ≡ told_verdict (verdict (aligned line.now position (length block.old))) }
     ensures block_after { block.new ≡ rewritten (aligned line.now position (length block.old)) block.old }
 {
-    answers::verdict(aes3_hunt::align(line, position, block))
+    aes3_hunt::align(line, position, block).into()
 }
 
 // ---- MADI
@@ -331,7 +307,7 @@ pub extern "C" fn lampcoil_madi_write(
     ensures value { result ≡ told_verdict (verdict (frame_written channels words.now commands.now level (length line.old))) }
     ensures line_after { line.new ≡ rewritten (frame_written channels words.now commands.now level (length line.old)) line.old }
 {
-    answers::verdict(madi_write::write_frame(channels, words, commands, level, line))
+    madi_write::write_frame(channels, words, commands, level, line).into()
 }
 
 // The words of a frame and its commands, and how many of each.
@@ -348,7 +324,7 @@ pub extern "C" fn lampcoil_madi_read(
     ensures words_after { words.new ≡ after words_of (frame_read channels level bits line.now (length words.old) (length commands.old)) words.old }
     ensures commands_after { commands.new ≡ after commands_of (frame_read channels level bits line.now (length words.old) (length commands.old)) commands.old }
 {
-    answers::frame(madi_read::read_frame(channels, level, bits, line, words, commands))
+    madi_read::read_frame(channels, level, bits, line, words, commands).into()
 }
 
 // ---- HD audio data packets
@@ -376,7 +352,7 @@ pub extern "C" fn lampcoil_hd_write(
         z1,
         z2,
     };
-    answers::verdict(hd_write::write_packet(fields, bodies, words))
+    hd_write::write_packet(fields, bodies, words).into()
 }
 
 // The bodies of a packet, its group, DBN, clock phase, ck12 and both Z.
@@ -385,7 +361,7 @@ pub extern "C" fn lampcoil_hd_read(words: &[u16], bodies: &mut [u32]) -> ToldPac
     ensures value { result ≡ told_packet (mapped fields_read (packet_read_answer words.now (length bodies.old))) }
     ensures bodies_after { bodies.new ≡ bodies_after words.now bodies.old }
 {
-    answers::packet(hd_read::read_packet(words, bodies))
+    hd_read::read_packet(words, bodies).into()
 }
 
 // A packet with every lane repaired, and in how many lanes it differs from the one received.
@@ -394,7 +370,7 @@ pub extern "C" fn lampcoil_hd_repair(words: &[u16], repaired: &mut [u16]) -> Tol
     ensures value { result ≡ told_number (mapped lanes_changed (repair_answer words.now (length repaired.old))) }
     ensures repaired_after { repaired.new ≡ words_repaired words.now repaired.old }
 {
-    answers::number(hd_repair::repair_packet(words, repaired))
+    hd_repair::repair_packet(words, repaired).into()
 }
 
 // The data block number after this one.
@@ -402,5 +378,5 @@ pub extern "C" fn lampcoil_hd_repair(words: &[u16], repaired: &mut [u16]) -> Tol
 pub extern "C" fn lampcoil_hd_next_dbn(dbn: u32) -> ToldNumber
     ensures { result ≡ told_number (next_dbn dbn) }
 {
-    answers::number(anc::next_dbn(dbn))
+    anc::next_dbn(dbn).into()
 }

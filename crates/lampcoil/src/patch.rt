@@ -4,7 +4,7 @@ ghost use Rattle.answer.specs.Answer.{verdict};
 ghost use Rattle.madi_patch.specs.Leased.{leased_answer, leased_frame, leased_verdicts};
 ghost use Rattle.lampcoil.specs.Told.{told_verdict};
 
-use crate::{Told, answers};
+use crate::Told;
 
 // The slots of one frame into those of another by the lease table, each only within one tenant, and a verdict for each
 // output slot.
@@ -22,7 +22,8 @@ pub extern "C" fn lampcoil_madi_patch(
     ensures frame_out_after { frame_out.new ≡ leased_frame channels active leases.now rows.now frame_in.now frame_out.old verdicts.old }
     ensures verdicts_after { verdicts.new ≡ leased_verdicts channels active leases.now rows.now frame_in.now frame_out.old verdicts.old }
 {
-    answers::verdict(madi_patch::patch_leased(
+    madi_patch::patch_leased(
         channels, active, leases, rows, frame_in, frame_out, verdicts,
-    ))
+    )
+    .into()
 }

@@ -4,7 +4,7 @@ ghost use Rattle.answer.specs.Answer.{verdict, after, rewritten};
 ghost use Rattle.talkback.specs.Talkback.{program_of, voice_of, voice_join_answer, separate_answer};
 ghost use Rattle.lampcoil.specs.Told.{told_verdict};
 
-use crate::{Told, answers};
+use crate::Told;
 
 // Program and voice into the samples of a block.
 #[unsafe(no_mangle)]
@@ -17,7 +17,7 @@ pub extern "C" fn lampcoil_talkback_join(
     ensures value { result ≡ told_verdict (verdict (voice_join_answer program.now voice.now side.now (length samples.old))) }
     ensures samples_after { samples.new ≡ rewritten (voice_join_answer program.now voice.now side.now (length samples.old)) samples.old }
 {
-    answers::verdict(talkback::join(program, voice, side, samples))
+    talkback::join(program, voice, side, samples).into()
 }
 
 // The program and the voice of a block.
@@ -32,5 +32,5 @@ pub extern "C" fn lampcoil_talkback_separate(
     ensures program_after { program.new ≡ after program_of (separate_answer samples.now side.now (length program.old) (length voice.old)) program.old }
     ensures voice_after { voice.new ≡ after voice_of (separate_answer samples.now side.now (length program.old) (length voice.old)) voice.old }
 {
-    answers::verdict(talkback::separate(samples, side, program, voice))
+    talkback::separate(samples, side, program, voice).into()
 }

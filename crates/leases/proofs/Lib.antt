@@ -10,3 +10,5 @@ pub mod Turns
 pub mod MoveTurns
 pub mod Residue
 pub mod Said
+pub mod Within
+pub mod Exits

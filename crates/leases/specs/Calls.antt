@@ -1,11 +1,8 @@
 -- The three calls: what each answers, and what it leaves in what was lent. Assumes nothing.
 use Rattle.std.specs.Prelude.{ℕ, ◌-◌, ◌*◌, Bool, ◌&&◌, List, [], ◌∷◌, ◌++◌, eqb, leb, length, replicate}
-use Rattle.answer.specs.Answer.{Answer, Answer.accepted, Answer.refused, after, rewritten}
+use Rattle.answer.specs.Answer.{Answer, Answer.accepted, after, rewritten}
 use Rattle.answer.specs.Demand.{Demand, Demand.asks, provided}
 use Rattle.leases.specs.Table.{held_by, granted, returned, leased, closed, moves}
-use Rattle.leases.specs.declared.LeaseAnswer.{LeaseAnswer}
-use Rattle.leases.specs.declared.LeaseAnswer.TheVariants.{Held}
-use Rattle.leases.specs.declared.LeaseAnswer.TheVariants.{Refused as NoLease}
 
 -- 1 to 255
 unfoldable pub tenant : ℕ → Bool
@@ -66,9 +63,3 @@ close_table room table = after closed (close_answer room table) table
 
 abbrev pub close_moves : List ℕ → List ℕ → List ℕ
 close_moves table old = after moves_list (close_answer (length old) table) old
-
--- ---- what the enum says
-
-abbrev pub lease_said : LeaseAnswer → Answer ℕ
-lease_said (Held slots) = accepted slots
-lease_said (NoLease n p) = refused n p

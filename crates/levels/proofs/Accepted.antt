@@ -1,6 +1,6 @@
 -- What an accepted sheet says of each line. Assumes nothing.
-use mathlib.Core.Path.{◌≡◌, refl, ap}
-use mathlib.Core.Bool.{Bool, true, false, not}
+use mathlib.Core.Path.{◌≡◌, refl}
+use mathlib.Core.Bool.{Bool, true, false}
 use mathlib.Core.List.{List}
 use Prim.Native.Nat.{ℕ, ◌+◌, ◌*◌, ◌/◌, ◌%◌, ◌≤◌, ◌<◌, ◌^◌}
 use native.Mathlib.Omega.{arith}
@@ -22,12 +22,6 @@ module _ (s : List ℤ) where
   sound-at e k h =
       search-cases (unsound_at s) (λ i. false) true 0 20 (λ x. x ≡ true → line_sound (k % 10) (samples_on s k) (line_at s k) ≡ true)
       (λ i l m t before q. no-yes false refl q) (λ none q. not-false _ (none k (omega arith) (omega arith))) e
-
-  pub some-unsound : (k : ℕ) → k < 20 → unsound_at s k ≡ true → sheet_sound s ≡ false
-  unfolding sheet_sound
-  some-unsound k h u =
-      search-cases (unsound_at s) (λ i. false) true 0 20 (λ x. x ≡ false)
-      (λ i l m t before. refl) (λ none. no-yes (unsound_at s k) (none k (omega arith) (omega arith)) u)
 
   pub all_sound : ((k : ℕ) → k < 20 → unsound_at s k ≡ false) → sheet_sound s ≡ true
   unfolding sheet_sound
@@ -94,13 +88,6 @@ unfolding low_of high_of
 head-parts n (pos a) e = (leb-true a 4294967296 (line-parts 0 n (pos a) e).0, refl)
 head-parts n (negsuc a) e = absurd (omega (arith, ltb-true a 0 (line-parts 0 n (negsuc a) e).0))
 
-pub head-over : (n : ℕ) (x : ℤ) → 4294967296 < nat_abs x → line_sound 0 n x ≡ false
-head-over n x h = go (line_sound 0 n x) refl
-  where
-    go : (t : Bool) → line_sound 0 n x ≡ t → line_sound 0 n x ≡ false
-    go true e = absurd (omega (arith, (head-parts n x e).0))
-    go false e = e
-
 -- ---- the head of a line in an accepted sheet, and its size
 
 module _ (s : List ℤ) (e : sheet_sound s ≡ true) (k : ℕ) (h : k < 20) where
@@ -115,13 +102,6 @@ module _ (s : List ℤ) (e : sheet_sound s ≡ true) (k : ℕ) (h : k < 20) wher
 
   pub at_small : mag (line_at s k) < 2 ^ 60
   at_small = line_small (k % 10) (samples_on s k) (line_at s k) head_small (sound-at s e k h)
-
--- a head too large
-pub head-unsound : (s : List ℤ) (k : ℕ) → k < 20 → 4294967296 < samples_on s k → sheet_sound s ≡ false
-head-unsound s k h l =
-    let q : k / 10 * 10 / 10 * 10 ≡ k / 10 * 10 = omega arith in
-    let z : k / 10 * 10 % 10 ≡ 0 = omega arith in
-    some-unsound s (k / 10 * 10) (omega arith) (rw (z, q) (ap not (head-over (samples_on s k) (line_at s (k / 10 * 10)) l)))
 
 -- ---- the reach of the lines from 6 on: counts
 

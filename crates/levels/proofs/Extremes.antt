@@ -12,7 +12,7 @@ use lib.ListN.{length, get_or}
 use lib.Signed.{le_z}
 use Rattle.bits.proofs.Tests.{pick-cases, no-yes}
 use Rattle.subframe.specs.Signed.{in_range}
-use Rattle.levels.specs.Lines.{least, most, both, inside}
+use Rattle.levels.specs.Lines.{least, most, both}
 use Rattle.levels.specs.Sheets.{of_one, of_samples}
 use Rattle.levels.specs.Inner.{magnitude_of}
 use Rattle.levels.proofs.Wholes.{le-self, le-turn, le_then, least-left, least-right, most-left, most-right}
@@ -64,10 +64,6 @@ range-between a (pos n) (pos m) e f p q = lt-ltb n 8388608 (omega (arith, leb-tr
 range-between a (pos n) (negsuc m) e f p q = no-yes false refl f
 range-between (pos m) (negsuc n) c e f p q = no-yes false refl e
 range-between (negsuc m) (negsuc n) c e f p q = lt-ltb n 8388608 (omega (arith, leb-true n m e, ltb-true m 8388608 p))
-
-pub inside-range : (x : ℤ) → inside 8388608 8388607 x ≡ true → in_range 24 x ≡ true
-inside-range (pos n) e = lt-ltb n 8388608 (omega (arith, leb-true n 8388607 e))
-inside-range (negsuc n) e = e
 
 pub all-in-range : (xs : List ℤ) → in_range 24 (of_samples 2 xs) ≡ true → in_range 24 (of_samples 3 xs) ≡ true
     → (i : ℕ) → i < length xs → in_range 24 (get_or xs i (pos 0)) ≡ true

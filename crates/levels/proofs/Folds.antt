@@ -1,15 +1,19 @@
 -- What one turn of the loops over a block's samples and octets does, and the sheet that is laid of it. Assumes nothing.
 use mathlib.Core.Path.{◌≡◌, refl, sym, ap, ◌∙◌}
-use mathlib.Core.Bool.{true, not}
+use mathlib.Core.Bool.{Bool, true, false, not, cond}
 use mathlib.Core.List.{List, [], ◌∷◌}
 use Prim.Native.Nat.{ℕ, suc, ◌+◌, ◌*◌, ◌/◌, ◌%◌, ◌≤◌, ◌<◌}
 use native.Mathlib.Numerals.{add-one}
+use native.Mathlib.Nat.{add-zero, zero-add}
+use Rattle.std.specs.Prelude.{Option, Some, None, position}
+use Rattle.std.specs.List.{position_from}
+use Rattle.std.proofs.lemmas.Iterator.Adapters.{position_from-zero}
 use native.Mathlib.Omega.{arith}
 use lib.Count.{ones}
 use lib.IntN.{ℤ, pos, nat_abs, ◌+ℤ◌}
 use lib.ListN.{length, get_or, take, drop, drop_of_length-le}
 use lib.Seq.{drop-cons, take-suc, length-take-le}
-use Rattle.bits.specs.Pick.{first}
+use Rattle.bits.specs.Pick.{pick, first}
 use Rattle.bits.specs.Row.{bits, count, digit}
 use Rattle.bits.specs.Listed.{listed}
 use Rattle.bits.proofs.Tests.{no-yes}
@@ -105,10 +109,31 @@ fit-by samples both i h =
 
 pub none-outside : (samples : List ℤ)
     → ((c : ℕ) → c < 2 → (in_range 24 (of_samples 2 (channel_samples c samples)) ≡ true) × (in_range 24 (of_samples 3 (channel_samples c samples)) ≡ true))
-    → 384 ≡ first (outside samples) 0 384 (λ i. i) 384
+    → None ≡ first (outside samples) 0 384 (λ i. Some i) None
 none-outside samples both =
-    search-cases (outside samples) (λ i. i) 384 0 384 (λ (x : ℕ). 384 ≡ x)
+    search-cases (outside samples) (λ i. Some i) None 0 384 (λ (x : Option ℕ). None ≡ x)
     (λ i l m t before. no-yes (outside samples i) (fit-by samples both i (omega arith)) t) (λ none. refl)
+
+-- ---- a search from the first on
+
+either-way : {A : Type 0} (t : Bool) (x y z : A) → y ≡ z → cond t x y ≡ pick t x z
+either-way true x y z e = refl
+either-way false x y z e = e
+
+searched : (p : ℤ → Bool) (xs : List ℤ) (q : ℕ → Bool) (k : ℕ) → ((i : ℕ) → i < length xs → q (k + i) ≡ p (get_or xs i (pos 0)))
+    → position_from p k xs ≡ first q k (length xs) (λ i. Some i) None
+unfolding first
+searched p [] q k same = refl
+searched p (x ∷ xs) q k same =
+    let h : q k ≡ p x = rw add-zero at (same 0 (omega arith)) in
+    let next : (i : ℕ) → i < length xs → q (suc k + i) ≡ p (get_or xs i (pos 0)) = λ i l.
+    (let e : k + suc i ≡ suc k + i = omega arith in rw e at (same (suc i) (omega arith))) in
+    rw (h, add-one k) (either-way (p x) (Some k) (position_from p (suc k) xs) (first q (suc k) (length xs) (λ i. Some i) None) (searched p xs q (suc k) next))
+
+pub first-searched : (s : List ℤ) → length s ≡ 384 → position (λ x. not (in_range 24 x)) s ≡ first (outside s) 0 384 (λ i. Some i) None
+first-searched s n =
+    position_from-zero (λ x. not (in_range 24 x)) s
+    ∙ (rw n at (searched (λ x. not (in_range 24 x)) s (outside s) 0 (λ i h. ap (outside s) (zero-add i) ∙ outside-is s i)))
 
 -- ---- octets of a column
 

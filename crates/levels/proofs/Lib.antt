@@ -2,6 +2,9 @@
 pub mod AtOnce
 pub mod Wholes
 pub mod Accepted
+pub mod Channels
+pub mod Levels
+pub mod Rooms
 pub mod Places
 pub mod Joining
 pub mod Stretches

@@ -1,12 +1,9 @@
--- The lines of a joined and of an empty sheet, and of one that is filled from its start. Assumes nothing.
-use mathlib.Core.Path.{◌≡◌, ap, ◌∙◌}
+-- The lines of a joined sheet, of an empty one and of that of blocks. Assumes nothing.
+use mathlib.Core.Path.{◌≡◌}
 use mathlib.Core.List.{List}
-use Prim.Native.Nat.{ℕ, ◌+◌, ◌-◌, ◌%◌, ◌≤◌, ◌<◌}
-use native.Mathlib.Omega.{arith}
+use Prim.Native.Nat.{ℕ, ◌%◌, ◌<◌}
 use lib.IntN.{ℤ, pos}
-use lib.ListN.{length, get_or, take, drop}
-use lib.Seq.{length-take-le, get_or-append-add, get_or-drop}
-use Rattle.bits.proofs.Filling.{over}
+use lib.ListN.{length}
 use Rattle.bits.proofs.Lists.{length-listed, get_or-listed}
 use Rattle.levels.specs.Lines.{line_at, sheet_joined, joined_at, empty_sheet, empty_line}
 use Rattle.levels.specs.Sheets.{Block, sheet_of, line_in}
@@ -34,11 +31,3 @@ length-sheet bs = length-listed 0 20 (line_in bs)
 pub at-sheet : (bs : List Block) (k : ℕ) → k < 20 → line_at (sheet_of bs) k ≡ line_in bs k
 unfolding sheet_of
 at-sheet bs k h = get_or-listed 20 (line_in bs) k (pos 0) h
-
--- what is not filled yet is as it was
-pub over-kept : (n : ℕ) (new old : List ℤ) (i : ℕ) → n ≤ length new → n ≤ i → line_at (over n new old) i ≡ line_at old i
-over-kept n new old i h l =
-    let t : length (take n new) ≡ n = length-take-le n new h in
-    let e : n + (i - n) ≡ i = omega arith in
-    rw (t, e) at (get_or-append-add (take n new) (drop n old) (i - n) (pos 0)) ∙ get_or-drop n old (i - n) (pos 0)
-    ∙ ap (λ (k : ℕ). get_or old k (pos 0)) e

@@ -1,14 +1,14 @@
 -- Whole numbers, for which there is no `omega`: size of a sum, the order read in ℕ by a distance, smallest and largest of
 -- three.
 -- Assumes nothing.
-use mathlib.Core.Path.{◌≡◌, refl, sym, ap, ◌∙◌}
+use mathlib.Core.Path.{◌≡◌, refl, sym, ap}
 use mathlib.Core.Bool.{Bool, true, false}
 use mathlib.Core.Logic.{⊎_elim}
 use Prim.Native.Nat.{ℕ, suc, ◌+◌, ◌-◌, ◌≤◌, ◌<◌}
 use native.Mathlib.Omega.{arith}
-use borrow.Author.Tests.{lt-ltb, le-ltb, ltb-true, leb-true, leb-false, le-leb}
-use lib.IntN.{ℤ, pos, negsuc, sub_ℕ, ◌+ℤ◌, ◌-ℤ◌}
-use lib.Signed.{mag, le_z, lt_z}
+use borrow.Author.Tests.{lt-ltb, le-ltb, leb-true, leb-false, le-leb}
+use lib.IntN.{ℤ, pos, negsuc, sub_ℕ, ◌+ℤ◌}
+use lib.Signed.{mag, le_z}
 use Rattle.bits.proofs.Tests.{order, pick-cases, no-yes}
 use Rattle.levels.specs.Lines.{least, most}
 
@@ -32,12 +32,6 @@ mag_sum (pos a) (pos b) = omega arith
 mag_sum (pos a) (negsuc b) = omega (arith, mag-sub a b)
 mag_sum (negsuc a) (pos b) = omega (arith, mag-sub b a)
 mag_sum (negsuc a) (negsuc b) = omega arith
-
--- ---- minus one less a negative number
-
-pub turned : (x : ℤ) → lt_z x (pos 0) ≡ true → negsuc 0 -ℤ x ≡ pos (mag x)
-turned (pos n) h = absurd (omega (arith, ltb-true n 0 h))
-turned (negsuc n) h = sub-above (suc n) 1 (omega arith) ∙ ap pos (omega arith)
 
 -- ---- the distance from -h
 
@@ -103,14 +97,6 @@ module _ (x y : ℤ) where
 
   pub most-below : le_z y x ≡ true → most x y ≡ x
   most-below e = pick-cases (λ (z : ℤ). z ≡ x) (le_z x y) y x (λ t. le-both y x e t) (λ t. refl)
-
--- the size of either
-module _ (h : ℕ) (x y : ℤ) (p : mag x < h) (q : mag y < h) where
-  pub least-small : mag (least x y) < h
-  least-small = pick-cases (λ (z : ℤ). mag z < h) (le_z x y) x y (λ t. p) (λ t. q)
-
-  pub most-small : mag (most x y) < h
-  most-small = pick-cases (λ (z : ℤ). mag z < h) (le_z x y) y x (λ t. q) (λ t. p)
 
 pub most-turn : (x y : ℤ) → most x y ≡ most y x
 most-turn x y =

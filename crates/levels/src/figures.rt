@@ -1,77 +1,44 @@
 // The figures of one channel of a block: its samples are gone through once.
-ghost use Rattle.std.specs.Prelude.{◌≡◌, true, ◌<◌, length};
-ghost use Rattle.std.specs.Int.Signed.{le_z};
+ghost use Rattle.std.specs.Prelude.{◌≡◌, ◌&&◌, ◌<◌, Some, None, not, position};
 ghost use Rattle.bits.specs.Pick.{first};
-ghost use Rattle.bits.specs.Row.{digit};
+ghost use Rattle.subframe.specs.Signed.{in_range};
 ghost use Rattle.block.specs.Check.{outside};
-ghost use Rattle.levels.specs.Lines.{most};
 ghost use Rattle.levels.specs.Sheets.{at_end, channel_samples};
-ghost use Rattle.levels.specs.Inner.{figures_of, Small};
-
-use crate::numbers;
+ghost use Rattle.levels.specs.Inner.{figures_of};
 
 // What one pass over a channel's samples gives.
-#[derive(Clone, Copy)]
+#[derive(Clone, Copy, Debug, PartialEq, Eq)]
 pub(crate) struct Figures {
-    pub(crate) smallest: i64,
-    pub(crate) largest: i64,
+    pub(crate) smallest: i32,
+    pub(crate) largest: i32,
     pub(crate) total: i64,
     pub(crate) ends: u32,
 }
 
-// 1 for a sample at either end of the range, else 0.
-fn at_end(x: i32) -> u32
-    ensures { result ≡ digit (at_end x) }
+// Whether a sample is at either end of the range.
+fn at_end(x: i32) -> bool
+    ensures { result ≡ at_end x }
 {
-    if x == 8388607 {
-        return 1;
-    }
-    if x == -8388608 {
-        return 1;
-    }
-    0
-}
-
-// The same number, wider.
-fn wide(x: i32) -> i64
-    ensures { result ≡ x }
-{
-    x as i64
-}
-
-// The largest with one number more, where the smallest is known: a number that is not above it changes nothing. Asked
-// so, the extremes hang together, and the back end takes one sample at a time and not two in a vector.
-fn grown(smallest: i64, largest: i64, x: i64) -> i64
-    requires { le_z smallest largest ≡ true }
-    ensures { result ≡ most largest x }
-{
-    if x <= smallest {
-        return largest;
-    }
-    numbers::larger(largest, x)
+    x == 8_388_607 || x == -8_388_608
 }
 
 // One pass over a channel's samples, in range or not.
-pub(crate) fn gather(samples: &[i32], c: usize) -> Figures
-    requires { (length samples.now ≡ 384) × (c < 2) }
-    ensures value { result ≡ figures_of (channel_samples c samples.now) }
-    ensures small { Small result }
+pub(crate) fn gather(samples: &[i32; 384], c: usize) -> Figures
+    requires { c < 2 }
+    ensures { result ≡ figures_of (channel_samples c samples.now) }
 {
     let first = samples[c];
-    let start = wide(first);
-    let mut smallest = start;
-    let mut largest = start;
-    let mut total = start;
-    let mut ends = at_end(first);
-    let mut i: usize = 1;
-    while i < 192 {
+    let mut smallest = first;
+    let mut largest = first;
+    let mut total = i64::from(first);
+    let mut ends = u32::from(at_end(first));
+    // An index: the samples of the two channels alternate, and the first of this one is taken already.
+    for i in 1..192 {
         let x = samples[2 * i + c];
-        let w = wide(x);
-        largest = grown(smallest, largest, w);
-        smallest = numbers::smaller(smallest, w);
-        total = numbers::sum(total, w);
-        ends += at_end(x);
-        i += 1;
+        smallest = smallest.min(x);
+        largest = largest.max(x);
+        total += i64::from(x);
+        ends += u32::from(at_end(x));
     }
     Figures {
         smallest,
@@ -81,36 +48,29 @@ pub(crate) fn gather(samples: &[i32], c: usize) -> Figures
     }
 }
 
-// The first sample that is out of range, or 384.
-fn search(samples: &[i32]) -> usize
-    requires { length samples.now ≡ 384 }
-    ensures { result ≡ first (outside samples.now) 0 384 (λ i. i) 384 }
-{
-    let mut i: usize = 0;
-    while i < 384 {
-        let x = samples[i];
-        if subframe::in_range(x) {
-            i += 1;
-        } else {
-            return i;
-        }
+impl Figures {
+    // Whether the samples are in range: both extremes are.
+    fn are_in_range(self) -> bool
+        ensures { result ≡ (in_range 24 self.smallest && in_range 24 self.largest) }
+    {
+        subframe::in_range(self.smallest) && subframe::in_range(self.largest)
     }
-    i
+}
+
+// The first sample that is out of range.
+fn search(samples: &[i32; 384]) -> Option<usize>
+    ensures { result ≡ position (λ x. not (in_range 24 x)) samples.now }
+{
+    samples.iter().position(|x| !subframe::in_range(*x))
 }
 
 // The same where the figures of both channels are known: a search only if one of the extremes is out of range.
-pub(crate) fn first_outside(samples: &[i32], a: Figures, b: Figures) -> usize
-    requires { (length samples.now ≡ 384) × (a ≡ figures_of (channel_samples 0 samples.now)) × (b ≡ figures_of (channel_samples 1 samples.now)) }
-    ensures { result ≡ first (outside samples.now) 0 384 (λ i. i) 384 }
+pub(crate) fn first_outside(samples: &[i32; 384], a: Figures, b: Figures) -> Option<usize>
+    requires { (a ≡ figures_of (channel_samples 0 samples.now)) × (b ≡ figures_of (channel_samples 1 samples.now)) }
+    ensures { result ≡ first (outside samples.now) 0 384 (λ i. Some i) None }
 {
-    if numbers::within(8388608, 8388607, a.smallest) {
-        if numbers::within(8388608, 8388607, a.largest) {
-            if numbers::within(8388608, 8388607, b.smallest) {
-                if numbers::within(8388608, 8388607, b.largest) {
-                    return 384;
-                }
-            }
-        }
+    if a.are_in_range() && b.are_in_range() {
+        return None;
     }
     search(samples)
 }

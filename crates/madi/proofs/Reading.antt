@@ -38,7 +38,7 @@ module _ (r : Row) (channels : ℕ) where
       → read_on r channels (channels + 256 - (f.channels + length f.commands)) f ≡ accepted (with_units us f)
   unfolding units_row channels_in commands_in with_units Placed
   read-units [] f e long all placed few named with-sync =
-      read_step r channels f (omega arith) (omega arith) End
+      read_step r channels f (omega arith) (omega arith) (accepted End)
       (piece-end r channels f (omega arith) (omega arith) (ap synced (sym (append-nil f.commands)) ∙ with-sync))
   read-units (channel w ∷ us) f e long all placed few named with-sync =
       let first = first_part r (channel_row w) (units_row us) (place_of f) 40 (length-channel w) e in
@@ -46,8 +46,8 @@ module _ (r : Row) (channels : ℕ) where
       length-append (channel_row w) (units_row us) ∙ ap (λ (n : ℕ). n + length (units_row us)) (length-channel w) in
       let here : place_of (with_channel w f) ≡ place_of f + 40 = omega arith in
       let fuel : channels + 256 - (f.channels + length f.commands + 1) ≡ channels + 256 - (f.channels + 1 + length f.commands) = omega arith in
-      let right : channel_piece f.channels f.active w ≡ Channel w = rw (placed.0, placed.1, placed.2) in
-      read_step r channels f (omega arith) (omega arith) (Channel w)
+      let right : channel_piece f.channels f.active w ≡ accepted (Channel w) = rw (placed.0, placed.1, placed.2) in
+      read_step r channels f (omega arith) (omega arith) (accepted (Channel w))
       (piece-channel r channels f w (omega arith) (omega arith) (ap channel_of first.0 ∙ channel-back w placed.3) right)
       ∙ ap (λ (k : ℕ). read_on r channels k (with_channel w f)) fuel
       ∙ read-units us (with_channel w f) (ap (λ (k : ℕ). drop k r) here ∙ first.1) (omega arith) (omega arith) placed.4 few named with-sync
@@ -60,7 +60,7 @@ module _ (r : Row) (channels : ℕ) where
       let one : length (f.commands ++ (c ∷ [])) ≡ length f.commands + 1 = length-append f.commands (c ∷ []) in
       let here : place_of (with_command c f) ≡ place_of f + 10 = omega arith in
       let fuel : channels + 256 - (f.channels + length f.commands + 1) ≡ channels + 256 - (f.channels + length (f.commands ++ (c ∷ []))) = omega arith in
-      read_step r channels f (omega arith) (omega arith) (Command c)
+      read_step r channels f (omega arith) (omega arith) (accepted (Command c))
       (piece-command r channels f c (omega arith) (omega arith) known (the-command r (place_of f) c first.0 known))
       ∙ ap (λ (k : ℕ). read_on r channels k (with_command c f)) fuel
       ∙ read-units us (with_command c f) (ap (λ (k : ℕ). drop k r) here ∙ first.1) (omega arith) all placed (omega arith)
@@ -96,7 +96,7 @@ record Left (r : Row) (channels : ℕ) (f g : Frame) : Type 0 where
   with-sync : synced (f.commands ++ commands_in us) ≡ true
 
 module _ (r : Row) (channels : ℕ) (g : Frame) where
-  ending : Room r channels g End → length g.commands ≤ 255 → Left r channels g g
+  ending : Room r channels g (accepted End) → length g.commands ≤ 255 → Left r channels g g
   unfolding units_row channels_in commands_in with_units Placed
   ending q h =
       record {
@@ -110,7 +110,7 @@ module _ (r : Row) (channels : ℕ) (g : Frame) where
         with-sync = ap synced (append-nil g.commands) ∙ q.1;
       }
 
-  before-command : (f : Frame) (c : ℕ) → Room r channels f (Command c) → Left r channels (with_command c f) g → Left r channels f g
+  before-command : (f : Frame) (c : ℕ) → Room r channels f (accepted (Command c)) → Left r channels (with_command c f) g → Left r channels f g
   unfolding units_row channels_in commands_in with_units
   before-command f c q rest =
       let one : length (f.commands ++ (c ∷ [])) ≡ length f.commands + 1 = length-append f.commands (c ∷ []) in
@@ -128,7 +128,7 @@ module _ (r : Row) (channels : ℕ) (g : Frame) where
         with-sync = sym (ap synced (append_assoc f.commands (c ∷ []) (commands_in rest.us))) ∙ rest.with-sync;
       }
 
-  before-channel : (f : Frame) (w : ℕ) → Room r channels f (Channel w) → Left r channels (with_channel w f) g → Left r channels f g
+  before-channel : (f : Frame) (w : ℕ) → Room r channels f (accepted (Channel w)) → Left r channels (with_channel w f) g → Left r channels f g
   unfolding units_row channels_in commands_in with_units Placed
   before-channel f w q rest =
       let p : place_of f + 40 ≡ place_of (with_channel w f) = omega arith in

@@ -18,7 +18,7 @@ use Rattle.bits.proofs.Chains.{part-first}
 use Rattle.madi_code.specs.Frame.{boundary, numbered}
 use Rattle.madi_code.specs.Groups.{command_code, command_row, command_of}
 use Rattle.madi_code.specs.Channels.{channel_row, channel_of}
-use Rattle.madi_code.specs.declared.ChannelBits.TheVariants.{Word}
+use Rattle.std.specs.Prelude.{Ok}
 use Rattle.madi_code.proofs.GroupLaws.{command-small, command-back}
 use Rattle.madi_code.proofs.FrameLaws.{numbered-at, numbered-all}
 use Rattle.madi_code.proofs.ChannelLaws.{length-channel, channel-back, channel-no-command}
@@ -95,7 +95,7 @@ cut n a b r s ha hb e =
 
 same_word : (w v : ℕ) → w < 2 ^ 32 → v < 2 ^ 32 → channel_row w ≡ channel_row v → w ≡ v
 same_word w v hw hv e =
-    let q : Word w ≡ Word v = sym (channel-back w hw) ∙ ap channel_of e ∙ channel-back v hv in
+    let q : Ok w ≡ Ok v = sym (channel-back w hw) ∙ ap channel_of e ∙ channel-back v hv in
     cc
 
 same-command : (c d : ℕ) → c < 16 → d < 16 → command_row c ≡ command_row d → c ≡ d

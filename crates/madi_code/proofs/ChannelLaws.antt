@@ -17,11 +17,11 @@ use Rattle.bits.proofs.Windows.{part_same, part-all, window-split, window-part, 
 use Rattle.bits.proofs.Packing.{length-pack, get_or-pack}
 use Rattle.bits.proofs.Chains.{length-chained, part-chained, windows-same}
 use Rattle.madi_code.specs.Groups.{group_codes, group_code, command_of, group_of}
-use Rattle.madi_code.specs.Channels.{channel_row, on_data, channel_from, channel_of}
+use Rattle.madi_code.specs.Channels.{channel_row, ChannelBits, broken, on_data, channel_from, channel_of}
 use Rattle.madi_code.specs.declared.Group.{Group}
 use Rattle.madi_code.specs.declared.Group.TheVariants.{Data, Half, Nothing}
-use Rattle.madi_code.specs.declared.ChannelBits.TheVariants.{Word, Broken}
-use Rattle.madi_code.specs.declared.ChannelBits.{ChannelBits}
+use Rattle.std.specs.Prelude.{Ok}
+use Rattle.madi_code.specs.declared.Broken.{Broken}
 use Rattle.madi_code.proofs.GroupLaws.{code_lt, place-lt, group-data, group-only, no-half}
 
 -- ---- sent
@@ -96,9 +96,9 @@ module _ (r : Row) (g w : ℕ) (h : g < 8) where
 
   -- a group that is no data group stops it
   pub channel-stop : (t : Group) → group_of (window r (5 * g) 5) ≡ t → ((on : ℕ → ChannelBits) (stop : ChannelBits) → on_data t on stop ≡ stop)
-      → channel_from r (8 - g) g w ≡ Broken g
+      → channel_from r (8 - g) g w ≡ broken g
   unfolding channel_from
-  channel-stop t e stops = rw (left, e) (stops (λ x. channel_from r (8 - (g + 1)) (g + 1) (w + x * 2 ^ (4 * g))) (Broken g))
+  channel-stop t e stops = rw (left, e) (stops (λ x. channel_from r (8 - (g + 1)) (g + 1) (w + x * 2 ^ (4 * g))) (broken g))
 
 -- four more bits of the word
 pub word-grows : (w x g : ℕ) → x < 16 → w < 2 ^ (4 * g) → w + x * 2 ^ (4 * g) < 2 ^ (4 * (g + 1))
@@ -129,17 +129,17 @@ module _ (w : ℕ) (hw : w < 2 ^ 32) where
       let m : w % 2 ^ (4 + 4 * g) ≡ w / 2 ^ (4 * g) % 16 * 2 ^ (4 * g) + w % 2 ^ (4 * g) = mod-pow-add w 4 (4 * g) in
       omega (arith, m) ∙ ap (λ (x : ℕ). w % 2 ^ x) (sym e)
 
-  from-group : (n g : ℕ) → n + g ≡ 8 → channel_from (channel_row w) n g (w % 2 ^ (4 * g)) ≡ Word w
+  from-group : (n g : ℕ) → n + g ≡ 8 → channel_from (channel_row w) n g (w % 2 ^ (4 * g)) ≡ Ok w
   unfolding channel_from
   from-group zero g e =
       let e8 : 4 * g ≡ 32 = omega arith in
-      ap (λ (x : ℕ). Word (w % 2 ^ x)) e8 ∙ ap Word (mod-eq_of_lt hw)
+      ap (λ (x : ℕ). Ok (w % 2 ^ x)) e8 ∙ ap Ok (mod-eq_of_lt hw)
   from-group (suc n) g e =
-      ap (λ (x : Group). on_data x (λ d. channel_from (channel_row w) n (g + 1) (w % 2 ^ (4 * g) + d * 2 ^ (4 * g))) (Broken g)) (meant-four w g (omega arith))
+      ap (λ (x : Group). on_data x (λ d. channel_from (channel_row w) n (g + 1) (w % 2 ^ (4 * g) + d * 2 ^ (4 * g))) (broken g)) (meant-four w g (omega arith))
       ∙ ap (channel_from (channel_row w) n (g + 1)) (gathered g) ∙ from-group n (g + 1) (omega arith)
 
   -- the 40 bits of a word are read as the word
-  pub channel-back : channel_of (channel_row w) ≡ Word w
+  pub channel-back : channel_of (channel_row w) ≡ Ok w
   unfolding channel_of
   channel-back = ap (channel_from (channel_row w) 8 0) (sym (mod-one w)) ∙ from-group 8 0 refl
 
@@ -162,7 +162,7 @@ two-parts w v x g hv hx e =
     )
 
 module _ (r : Row) (w : ℕ) where
-  rest_of : (n g v : ℕ) → n + g ≡ 8 → v < 2 ^ (4 * g) → channel_from r n g v ≡ Word w → Rest r w g v
+  rest_of : (n g v : ℕ) → n + g ≡ 8 → v < 2 ^ (4 * g) → channel_from r n g v ≡ Ok w → Rest r w g v
   unfolding channel_from
   rest_of zero g v e hv q =
       let same : v ≡ w = cc in
@@ -174,8 +174,8 @@ module _ (r : Row) (w : ℕ) where
   rest_of (suc n) g v e hv q = by (group_of (window r (5 * g) 5)) refl (rest_of n) q
     where
       by : (t : Group) → group_of (window r (5 * g) 5) ≡ t
-          → ((g v : ℕ) → n + g ≡ 8 → v < 2 ^ (4 * g) → channel_from r n g v ≡ Word w → Rest r w g v)
-          → on_data t (λ x. channel_from r n (g + 1) (v + x * 2 ^ (4 * g))) (Broken g) ≡ Word w → Rest r w g v
+          → ((g v : ℕ) → n + g ≡ 8 → v < 2 ^ (4 * g) → channel_from r n g v ≡ Ok w → Rest r w g v)
+          → on_data t (λ x. channel_from r n (g + 1) (v + x * 2 ^ (4 * g))) (broken g) ≡ Ok w → Rest r w g v
       by Nothing f on q = absurd (let z : ◌≡◌ {A = ℕ} 0 1 = cc in omega arith)
       by Half f on q = absurd (let z : ◌≡◌ {A = ℕ} 0 1 = cc in omega arith)
       by (Data x) f on q =
@@ -192,7 +192,7 @@ module _ (r : Row) (w : ℕ) where
           }
 
   -- 40 bits that are read as a word are the bits of that word
-  pub channel-only : length r ≡ 40 → channel_of r ≡ Word w → (w < 2 ^ 32) × (r ≡ channel_row w)
+  pub channel-only : length r ≡ 40 → channel_of r ≡ Ok w → (w < 2 ^ 32) × (r ≡ channel_row w)
   unfolding channel_of
   channel-only h e =
       let rest = rest_of 8 0 0 refl (omega arith) e in (
@@ -201,19 +201,24 @@ module _ (r : Row) (w : ℕ) where
             (λ j l. ap (λ (p : ℕ). window r p 5) (mul_comm j 5) ∙ rest.sent j (omega arith) l ∙ ap (λ (p : ℕ). window (channel_row w) p 5) (mul_comm 5 j)),
       )
 
+group-once : (k g : ℕ) → broken k ≡ broken g → k ≡ g
+group-once k g q =
+    let same : ◌≡◌ {A = Broken} (record { group = k }) (record { group = g }) = cc in
+    ap (λ (b : Broken). b.group) same
+
 -- the first group that is no data group is one of eight
-pub broken-lt : (r : Row) (g : ℕ) → channel_of r ≡ Broken g → g < 8
+pub broken-lt : (r : Row) (g : ℕ) → channel_of r ≡ broken g → g < 8
 unfolding channel_of channel_from
 broken-lt r g e = from 8 0 0 refl e
   where
-    from : (n k w : ℕ) → n + k ≡ 8 → channel_from r n k w ≡ Broken g → g < 8
+    from : (n k w : ℕ) → n + k ≡ 8 → channel_from r n k w ≡ broken g → g < 8
     from zero k w h q = absurd (let z : ◌≡◌ {A = ℕ} 0 1 = cc in omega arith)
     from (suc n) k w h q = by (group_of (window r (5 * k) 5)) (from n) q
       where
-        by : (t : Group) → ((k w : ℕ) → n + k ≡ 8 → channel_from r n k w ≡ Broken g → g < 8)
-            → on_data t (λ x. channel_from r n (k + 1) (w + x * 2 ^ (4 * k))) (Broken k) ≡ Broken g → g < 8
-        by Nothing on q = let same : k ≡ g = cc in omega arith
-        by Half on q = let same : k ≡ g = cc in omega arith
+        by : (t : Group) → ((k w : ℕ) → n + k ≡ 8 → channel_from r n k w ≡ broken g → g < 8)
+            → on_data t (λ x. channel_from r n (k + 1) (w + x * 2 ^ (4 * k))) (broken k) ≡ broken g → g < 8
+        by Nothing on q = omega (arith, group-once k g q)
+        by Half on q = omega (arith, group-once k g q)
         by (Data x) on q = on (k + 1) (w + x * 2 ^ (4 * k)) (omega arith) q
 
 -- no channel begins with a command

@@ -1,14 +1,16 @@
 -- What a channel count can be, and what a list of commands holds. Assumes nothing.
 use mathlib.Core.Path.{◌≡◌, refl}
-use mathlib.Core.Bool.{Bool, true, false, ◌||◌}
-use mathlib.Core.List.{List, [], ◌∷◌}
+use mathlib.Core.Bool.{Bool, true, false, ◌&&◌, ◌||◌}
+use mathlib.Core.List.{List, [], ◌∷◌, ◌++◌}
 use Prim.Native.Nat.{ℕ, zero, suc, ◌≤◌, ◌<◌}
 use native.Mathlib.Omega.{arith}
-use borrow.Author.Tests.{leb-true, le-leb, eqb-true, eq-eqb, ne_eqb}
-use lib.Dec.{eqb, leb}
+use borrow.Author.Tests.{leb-true, le-leb, eqb-true, eq-eqb, ne_eqb, ltb-true, ltb-false, lt-ltb}
+use lib.Dec.{eqb, leb, ltb}
+use Rattle.std.specs.Prelude.{Some, None}
+use Rattle.bits.specs.Pick.{pick}
 use lib.ListN.{length, get_or}
 use Rattle.bits.proofs.Tests.{both_true, no-yes}
-use Rattle.madi_code.specs.Frame.{counted, numbered, synced}
+use Rattle.madi_code.specs.Frame.{counted, numbered, synced, below}
 
 pub counted-le : (channels : ℕ) → counted channels ≡ true → channels ≤ 64
 unfolding counted
@@ -64,3 +66,41 @@ numbered-all (c ∷ cs) all = rw (le-leb c 15 (let h : c < 16 = all 0 (omega ari
 pub numbered_next : (c : ℕ) (cs : List ℕ) → c < 16 → numbered cs ≡ true → numbered (c ∷ cs) ≡ true
 unfolding numbered
 numbered_next c cs h e = rw (le-leb c 15 (omega arith)) e
+
+-- one command more, and none
+pub numbered-push : (ys : List ℕ) (x : ℕ) → numbered (ys ++ x ∷ []) ≡ (numbered ys && leb x 15)
+unfolding numbered
+numbered-push [] x = and-true (leb x 15)
+  where
+    and-true : (t : Bool) → (t && true) ≡ t
+    and-true true = refl
+    and-true false = refl
+numbered-push (y ∷ ys) x = rw (numbered-push ys x) (assoc (leb y 15) (numbered ys) (leb x 15))
+  where
+    assoc : (t u v : Bool) → (t && (u && v)) ≡ ((t && u) && v)
+    assoc true u v = refl
+    assoc false u v = refl
+
+pub none-numbered : true ≡ numbered []
+unfolding numbered
+none-numbered = refl
+
+-- ---- a number below a limit, or none
+
+pub below-some : (n x y : ℕ) → below n x ≡ Some y → (x < n) × (x ≡ y)
+below-some n x y = go (ltb x n) refl
+  where
+    go : (t : Bool) → ltb x n ≡ t → pick t (Some x) None ≡ Some y → (x < n) × (x ≡ y)
+    go true e q = (ltb-true x n e, cc)
+    go false e q = cc
+
+pub below-none : (n x : ℕ) → below n x ≡ None → n ≤ x
+below-none n x = go (ltb x n) refl
+  where
+    go : (t : Bool) → ltb x n ≡ t → pick t (Some x) None ≡ None → n ≤ x
+    go true e q = cc
+    go false e q = omega (arith, ltb-false x n e)
+
+-- a number that is below it
+pub below-is : (n x y : ℕ) → y < n → x ≡ y → below n x ≡ Some y
+below-is n x y h e = rw (e, lt-ltb y n h)

@@ -12,7 +12,7 @@ use Rattle.bits.specs.Row.{bits, big_bits, big}
 use Rattle.bits.specs.Window.{part, window}
 use Rattle.bits.proofs.Tests.{pick-cases}
 use Rattle.madi_code.specs.Groups.{group_code, group_of}
-use Rattle.madi_code.specs.Channels.{channel_row, channel_from, channel_of}
+use Rattle.madi_code.specs.Channels.{channel_row, ChannelBits, channel_from, channel_of}
 use Rattle.bits.proofs.Lists.{get_or-listed, listed-all}
 use Rattle.madi_code.specs.Inner.{
   Sends,
@@ -30,8 +30,7 @@ use Rattle.madi_code.specs.Inner.{
   channel_by,
 }
 use Rattle.madi_code.specs.declared.Group.TheVariants.{Data}
-use Rattle.madi_code.specs.declared.ChannelBits.{ChannelBits}
-use Rattle.madi_code.specs.declared.ChannelBits.TheVariants.{Word}
+use Rattle.std.specs.Prelude.{Ok}
 use Rattle.madi_code.proofs.GroupLaws.{group-meant, meant-cases}
 use Rattle.madi_code.proofs.ChannelLaws.{groups-next, groups-all, group-inside, channel-more}
 
@@ -94,7 +93,7 @@ module _ (t : List ℕ) (v : ℕ) (right : Means t) where
   early k = ap (λ (x : ℕ). get_or t (x % 32) 0) (shr-shr v 20 k)
 
   -- eight sayings below 128 together are eight data groups
-  eight : eight_sum t v < 128 → (eight_fours t v < 2 ^ 32) × (channel_of (big_bits 40 v) ≡ Word (eight_fours t v))
+  eight : eight_sum t v < 128 → (eight_fours t v < 2 ^ 32) × (channel_of (big_bits 40 v) ≡ Ok (eight_fours t v))
   unfolding four_sum four_fours eight_sum eight_fours channel_of channel_from at place
   eight h =
       let z = last in
@@ -116,12 +115,12 @@ module _ (t : List ℕ) (v : ℕ) (right : Means t) where
       let f = four-more 5 w5 (omega arith) (omega arith) in
       let g = four-more 6 w6 (omega arith) (omega arith) in
       let i = four-more 7 w7 (omega arith) (omega arith) in
-      (omega arith, a.1 ∙ b.1 ∙ c.1 ∙ d.1 ∙ e.1 ∙ f.1 ∙ g.1 ∙ i.1 ∙ ap Word (omega arith))
+      (omega arith, a.1 ∙ b.1 ∙ c.1 ∙ d.1 ∙ e.1 ∙ f.1 ∙ g.1 ∙ i.1 ∙ ap Ok (omega arith))
 
-  pub word-received : word_by_table t v < 2 ^ 32 → channel_of (big_bits 40 v) ≡ Word (word_by_table t v)
+  pub word-received : word_by_table t v < 2 ^ 32 → channel_of (big_bits 40 v) ≡ Ok (word_by_table t v)
   unfolding word_by_table
   word-received =
-      pick-cases (λ (w : ℕ). w < 2 ^ 32 → channel_of (big_bits 40 v) ≡ Word w) (ltb (eight_sum t v) 128) _ _
+      pick-cases (λ (w : ℕ). w < 2 ^ 32 → channel_of (big_bits 40 v) ≡ Ok w) (ltb (eight_sum t v) 128) _ _
       (λ s h. (eight (ltb-true (eight_sum t v) 128 s)).1) (λ f h. absurd (omega arith))
 
   pub channel-received : channel_by t v ≡ channel_of (big_bits 40 v)

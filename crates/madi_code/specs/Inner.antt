@@ -1,13 +1,11 @@
 -- The tables that a caller lends, and what functions give that go by them. Assumes nothing.
-use Rattle.std.specs.Prelude.{ℕ, ◌+◌, ◌*◌, ◌/◌, ◌%◌, ◌^◌, ◌<◌, ◌≡◌, List, [], ◌∷◌, eqb, ltb, get_or}
+use Rattle.std.specs.Prelude.{ℕ, ◌+◌, ◌*◌, ◌/◌, ◌%◌, ◌^◌, ◌<◌, ◌≡◌, List, [], ◌∷◌, eqb, ltb, get_or, Ok}
 use Rattle.bits.specs.Pick.{pick, first}
 use Rattle.bits.specs.Row.{bits, big_bits, little, big}
 use Rattle.bits.specs.Listed.{listed}
 use Rattle.madi_code.specs.Groups.{group_code, is_half}
-use Rattle.madi_code.specs.Channels.{channel_of}
+use Rattle.madi_code.specs.Channels.{ChannelBits, channel_of}
 use Rattle.madi_code.specs.declared.Fours.{Fours}
-use Rattle.madi_code.specs.declared.ChannelBits.{ChannelBits}
-use Rattle.madi_code.specs.declared.ChannelBits.TheVariants.{Word}
 
 -- ---- sent
 
@@ -67,7 +65,7 @@ word_by_table t v = pick (ltb (eight_sum t v) 128) (eight_fours t v) (2 ^ 32)
 
 -- a channel by that word, and else by its groups
 unfoldable pub channel_by : List ℕ → ℕ → ChannelBits
-channel_by t v = pick (ltb (word_by_table t v) (2 ^ 32)) (Word (word_by_table t v)) (channel_of (big_bits 40 v))
+channel_by t v = pick (ltb (word_by_table t v) (2 ^ 32)) (Ok (word_by_table t v)) (channel_of (big_bits 40 v))
 
 -- ---- commands received
 

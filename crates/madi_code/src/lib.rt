@@ -4,7 +4,7 @@
 
 ghost use Rattle.std.specs.Prelude.{◌≡◌, ◌%◌, ◌^◌, ◌<◌, take, get_or};
 ghost use Rattle.bits.specs.Row.{big_bits, big};
-ghost use Rattle.madi_code.specs.Frame.{counted, synced};
+ghost use Rattle.madi_code.specs.Frame.{counted, synced, below};
 ghost use Rattle.madi_code.specs.Groups.{group_codes, command_codes, command_of, group_of};
 ghost use Rattle.madi_code.specs.Channels.{channel_row, channel_of};
 ghost use Rattle.madi_code.specs.Inner.{four_groups, eight_groups, FoursOf, word_by_table, channel_by, group_table, meaning_table, placed_commands, place_in, command_by};
@@ -17,7 +17,7 @@ use tables::{COMMANDS, GROUPS, MEANT, PLACED, TURNED};
 const SYNC: u64 = 0b11000_10001;
 
 // What a five-bit group means.
-#[derive(Clone, Copy)]
+#[derive(Clone, Copy, Debug, PartialEq, Eq)]
 pub enum Group {
     // Four bits as they stand in a channel's word.
     Data(u8),
@@ -26,11 +26,10 @@ pub enum Group {
     Nothing,
 }
 
-// What 40 bits are as a channel: its word, or the first of the groups 0 to 7 that is no data group.
-#[derive(Clone, Copy)]
-pub enum ChannelBits {
-    Word(u32),
-    Broken(u32),
+// Why 40 bits are no channel: the first of the groups 0 to 7 that is no data group.
+#[derive(Clone, Copy, Debug, PartialEq, Eq)]
+pub struct Broken {
+    pub group: u32,
 }
 
 // What four groups mean together: added up, which shows whether all are data groups, and as 16 bits of a word.
@@ -44,33 +43,15 @@ struct Fours {
 pub fn is_counted(channels: u32) -> bool
     ensures { result ≡ counted channels }
 {
-    if channels == 56 {
-        return true;
-    }
-    channels == 64
+    matches!(channels, 56 | 64)
 }
 
 // Whether command 0 is among the first n of a list.
+// A number and not a shorter slice: the contract's `take n` also says what holds of an n beyond the list.
 pub fn has_sync(commands: &[u8], n: usize) -> bool
     ensures { result ≡ synced (take n commands.now) }
 {
-    let mut i = 0;
-    while i < commands.len() {
-        if n <= i {
-            return false;
-        }
-        if commands[i] == 0 {
-            return true;
-        }
-        i += 1;
-    }
-    false
-}
-
-fn wide(x: u8) -> u64
-    ensures { (result ≡ x) × (result < 256) }
-{
-    x as u64
+    commands[..n.min(commands.len())].contains(&0)
 }
 
 // ---- sent
@@ -88,12 +69,9 @@ pub fn groups() -> [u8; 16]
     ensures { result ≡ group_table }
 {
     let codes = group_codes();
-    let turned = TURNED;
-    let mut table = [0u8; 16];
-    let mut x: usize = 0;
-    while x < 16 {
-        table[x] = codes[turned[x] as usize];
-        x += 1;
+    let mut table = [0; 16];
+    for (x, &four) in TURNED.iter().enumerate() {
+        table[x] = codes[usize::from(four)];
     }
     table
 }
@@ -102,7 +80,7 @@ pub fn groups() -> [u8; 16]
 fn group_by(table: &[u8; 16], w: u32) -> u64
     ensures { (result ≡ get_or table.now (w % 16) 0) × (result < 256) }
 {
-    wide(table[(w % 16) as usize])
+    u64::from(table[(w % 16) as usize])
 }
 
 // The four groups of the lowest 16 bits of w, the earliest highest.
@@ -146,14 +124,11 @@ pub fn decode_group(g: u8) -> Group
     if 32 <= g {
         return Group::Nothing;
     }
-    let x = MEANT[g as usize];
-    if x < 16 {
-        return Group::Data(x);
+    match MEANT[usize::from(g)] {
+        x if x < 16 => Group::Data(x),
+        129 => Group::Half,
+        _ => Group::Nothing,
     }
-    if x == 129 {
-        return Group::Half;
-    }
-    Group::Nothing
 }
 
 // The table of commands by their places, for an operation that lays it out once and lends it to its loops.
@@ -170,43 +145,36 @@ fn place_of(v: u64) -> usize
     (v % 1024 * 7 / 8 % 32) as usize
 }
 
-fn wide_entry(x: u16) -> u64
-    ensures { result ≡ x }
+// The command that ten bits are by a table of places: one entry is looked at, which has the command's code in it.
+pub fn command_by(table: &[u16; 32], v: u64) -> Option<u32>
+    ensures { result ≡ below 16 (command_by table.now v) }
 {
-    x as u64
-}
-
-// The command that ten bits are by a table of places, or 16: one entry is looked at, which has the command's code in it.
-pub fn command_by(table: &[u16; 32], v: u64) -> u32
-    ensures { result ≡ command_by table.now v }
-{
-    let e = wide_entry(table[place_of(v)]);
-    if e / 16 == v {
-        return (e % 16) as u32;
+    let e = table[place_of(v)];
+    if u64::from(e / 16) == v {
+        Some(u32::from(e % 16))
+    } else {
+        None
     }
-    16
 }
 
 // The same of ten bits alone.
-fn listed_command(v: u64) -> u32
-    ensures { result ≡ command_of v }
+fn listed_command(v: u64) -> Option<u32>
+    ensures { result ≡ below 16 (command_of v) }
 {
     let table = command_places();
     command_by(&table, v)
 }
 
-// The command that ten bits are, or 16: the default sync at once, the others where their first half is one.
-pub fn command_of(v: u64) -> u32
-    ensures { result ≡ command_of v }
+// The command that ten bits are: the default sync at once, the others where their first half is one.
+pub fn command_of(v: u64) -> Option<u32>
+    ensures { result ≡ below 16 (command_of v) }
 {
     if v == SYNC {
-        return 0;
+        return Some(0);
     }
-    let half = decode_group(((v / 32) % 32) as u8);
-    match half {
+    match decode_group((v / 32 % 32) as u8) {
         Group::Half => listed_command(v),
-        Group::Data(_) => 16,
-        Group::Nothing => 16,
+        Group::Data(_) | Group::Nothing => None,
     }
 }
 
@@ -221,7 +189,7 @@ pub fn meanings() -> [u8; 32]
 fn meaning_by(table: &[u8; 32], v: u64) -> u64
     ensures { (result ≡ get_or table.now (v % 32) 0) × (result < 256) }
 {
-    wide(table[(v % 32) as usize])
+    u64::from(table[(v % 32) as usize])
 }
 
 // What the four groups of the lowest 20 bits of v mean.
@@ -238,51 +206,42 @@ fn four_meanings(table: &[u8; 32], v: u64) -> Fours
     }
 }
 
-// The word of the lowest 40 bits of v by a table of meanings, the earliest bit highest; 2 ^ 32 where they are not all
-// data groups.
-pub fn word_by(table: &[u8; 32], v: u64) -> u64
-    ensures { result ≡ word_by_table table.now v }
+// The word of the lowest 40 bits of v by a table of meanings, the earliest bit highest, where they are all data groups.
+// A comparison and a cast: with `u32::try_from` a frame is read 6 per cent slower.
+pub fn word_by(table: &[u8; 32], v: u64) -> Option<u32>
+    ensures { result ≡ below (2 ^ 32) (word_by_table table.now v) }
 {
     let early = four_meanings(table, v >> 20);
     let late = four_meanings(table, v);
-    if early.sum + late.sum < 128 {
-        return early.word + late.word * 0x1_0000;
+    let word = early.word + late.word * 0x1_0000;
+    if early.sum + late.sum < 128 && word < 0x1_0000_0000 {
+        Some(word as u32)
+    } else {
+        None
     }
-    0x1_0000_0000
 }
 
 // The channel of the lowest 40 bits of v, group by group.
-pub fn channel_of(v: u64) -> ChannelBits
+pub fn channel_of(v: u64) -> Result<u32, Broken>
     ensures { result ≡ channel_of (big_bits 40 v) }
 {
     let mut w: u32 = 0;
-    let mut g: u32 = 0;
-    while g < 8 {
-        let d = decode_group(((v >> (35 - 5 * g)) % 32) as u8);
-        match d {
-            Group::Data(y) => {
-                w = w + ((y as u32) << (4 * g));
-            }
-            Group::Half => {
-                return ChannelBits::Broken(g);
-            }
-            Group::Nothing => {
-                return ChannelBits::Broken(g);
-            }
+    for g in 0..8u32 {
+        match decode_group(((v >> (35 - 5 * g)) % 32) as u8) {
+            Group::Data(y) => w += u32::from(y) << (4 * g),
+            Group::Half | Group::Nothing => return Err(Broken { group: g }),
         }
-        g += 1;
     }
-    ChannelBits::Word(w)
+    Ok(w)
 }
 
 // The channel of the lowest 40 bits of v by a table of meanings; group by group only where one of them is no data
 // group.
-pub fn channel_by(table: &[u8; 32], v: u64) -> ChannelBits
+pub fn channel_by(table: &[u8; 32], v: u64) -> Result<u32, Broken>
     ensures { result ≡ channel_by table.now v }
 {
-    let w = word_by(table, v);
-    if w < 0x1_0000_0000 {
-        return ChannelBits::Word(w as u32);
+    match word_by(table, v) {
+        Some(w) => Ok(w),
+        None => channel_of(v),
     }
-    channel_of(v)
 }

@@ -31,6 +31,7 @@ pub const COMMANDS: [u16; 16] = [
 
 // What each of the 32 five-bit groups means: four bits of a word; where it is no data group, 128, which is more than
 // eight fours together, and 129 for half of a command symbol.
+// Numbers and not `Group`s: `word_by` adds eight of them up, so that one comparison judges a channel.
 pub const MEANT: [u8; 32] = [
     129, 128, 128, 128, 129, 128, 128, 129, 128, 8, 2, 10, 128, 129, 6, 14, 128, 129, 1, 9, 4, 12,
     5, 13, 129, 129, 3, 11, 7, 15, 0, 129,
@@ -38,6 +39,7 @@ pub const MEANT: [u8; 32] = [
 
 // Each command at the place that seven eighths of its code, modulo 32, lead to: its code in ten bits, and its number in
 // the four below them. At the other places stands command 15, which is right there too.
+// Both in one number: `command_by` loads one entry, and `madi_read` borrows the table as it is (`command_places`).
 pub const PLACED: [u16; 32] = [
     0x000_F, 0x1B9_3, 0x327_6, 0x004_D, 0x000_F, 0x000_F, 0x000_F, 0x3E4_4, 0x000_F, 0x000_F,
     0x0E7_B, 0x09F_9, 0x000_F, 0x000_F, 0x311_0, 0x000_F, 0x080_A, 0x339_7, 0x1A7_5, 0x084_8,

@@ -27,14 +27,11 @@ module _ (level bits : ℕ) (line : List ℕ) (long : bits ≤ length line * 8) 
   unfolding window
   window-carried at n h = ap big (part-carried at n h)
 
-  -- forty bits as a number: their row, and the first ten
-  module _ (at v : ℕ) (h : at + 40 ≤ bits) (e : v ≡ window (changes (odd level) (symbols line)) at 40) where
-    pub forty : big_bits 40 v ≡ part (carried level bits line) at 40
-    unfolding window
-    forty =
-        let r : Row = part (changes (odd level) (symbols line)) at 40 in
-        ap (big_bits 40) e ∙ (rw (length_part (changes (odd level) (symbols line)) at 40) at (big_bits-big r)) ∙ part-carried at 40 h
+-- forty bits as a number: their row, and the first ten
+module _ (r : Row) (at v : ℕ) (e : v ≡ window r at 40) where
+  pub forty : big_bits 40 v ≡ part r at 40
+  unfolding window
+  forty = ap (big_bits 40) e ∙ (rw (length_part r at 40) at (big_bits-big (part r at 40)))
 
-    pub first-ten : v / 2 ^ 30 ≡ window (carried level bits line) at 10
-    first-ten =
-        ap (λ (x : ℕ). x / 2 ^ 30) e ∙ window-high (changes (odd level) (symbols line)) at 10 30 ∙ window-carried at 10 (omega arith)
+  pub first-ten : v / 2 ^ 30 ≡ window r at 10
+  first-ten = ap (λ (x : ℕ). x / 2 ^ 30) e ∙ window-high r at 10 30

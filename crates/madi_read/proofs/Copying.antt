@@ -1,19 +1,13 @@
--- Laws of the reader's copies, and of the list that the commands go to. Assumes nothing.
+-- Laws of the list that the commands go to. Assumes nothing.
 use mathlib.Core.Path.{◌≡◌, sym, ap, ◌∙◌}
 use mathlib.Core.List.{List, [], ◌∷◌, ◌++◌, append_assoc}
 use Prim.Native.Nat.{ℕ, suc, ◌+◌, ◌-◌, ◌≤◌, ◌<◌}
 use native.Mathlib.Numerals.{add-one}
 use native.Mathlib.Omega.{arith}
-use borrow.Author.Tests.{le-leb}
 use lib.ListN.{length, take, set, replicate, length-set, length-append, length-replicate}
 use lib.Seq.{length-take-le, take-suc-set, set-append_seam, take-append_seam}
 use Rattle.madi_read.specs.Reader.{list_of}
-use Rattle.madi_read.specs.Inner.{copied, Listed}
-
--- where the list is long enough, all that stood is replaced
-pub copied_all : (src dst : List ℕ) → length dst ≤ length src → copied src dst ≡ take (length dst) src
-unfolding copied
-copied_all src dst h = rw (le-leb (length dst) (length src) h)
+use Rattle.madi_read.specs.Inner.{Listed}
 
 -- ---- the list of commands
 

@@ -6,3 +6,4 @@ pub mod Copying
 pub mod Accepting
 pub mod Said
 pub mod Residue
+pub mod Found

@@ -6,28 +6,26 @@ use Prim.Native.Nat.{ℕ, ◌+◌, ◌-◌, ◌/◌, ◌%◌, ◌^◌, ◌≤◌
 use native.Mathlib.Nat.{div-one}
 use native.Mathlib.Omega.{arith}
 use borrow.Author.Tests.{lt-ltb, le-ltb, le-leb, eq-eqb, ne_eqb}
-use lib.Dec.{eqb}
 use lib.ListN.{length, length-append}
-use Rattle.bits.specs.Pick.{pick}
 use Rattle.bits.specs.Row.{Row, big}
 use Rattle.bits.specs.Window.{part, window}
 use Rattle.bits.proofs.Windows.{length_part, window-high}
+use Rattle.answer.specs.Answer.{Answer, Answer.accepted}
 use Rattle.madi_code.specs.Groups.{command_of}
+use Rattle.std.specs.Prelude.{Ok}
 use Rattle.madi_code.specs.Channels.{channel_row, channel_of}
 use Rattle.madi_code.specs.Frame.{boundary, synced}
-use Rattle.madi_code.specs.declared.ChannelBits.TheVariants.{Word}
 use Rattle.madi_code.proofs.ChannelLaws.{channel-only, groups-all, channel-no-command}
-use Rattle.madi_read.specs.Reader.{Frame, place_of, channel_piece, channel_at, end_of, command_piece, piece_at}
-use Rattle.madi_read.specs.Inner.{sofar, short_piece, Plain, Reached}
+use Rattle.madi_read.specs.Reader.{Frame, place_of, channel_piece, end_of, command_piece, piece_at}
+use Rattle.madi_read.specs.Inner.{sofar, due_piece, short_piece, Plain, Reached}
 use Rattle.madi_read.specs.declared.Piece.{Piece}
 use Rattle.madi_read.specs.declared.Piece.TheVariants.{End, Command, Channel}
-use Rattle.madi_read.specs.declared.Piece.TheVariants.{Refused as NoPiece}
 use Rattle.madi_read.proofs.Walking.{read_step}
 
 -- ---- what stands at a boundary
 
 -- no channel begins with a command
-pub no-command : (r : Row) (at w : ℕ) → channel_of (part r at 40) ≡ Word w → command_of (window r at 10) ≡ 16
+pub no-command : (r : Row) (at w : ℕ) → channel_of (part r at 40) ≡ Ok w → command_of (window r at 10) ≡ 16
 unfolding window
 no-command r at w e =
     let only = channel-only (part r at 40) w (length_part r at 40) e in
@@ -36,8 +34,8 @@ no-command r at w e =
 
 module _ (r : Row) (channels : ℕ) (f : Frame) where
   -- a channel that is due and right in its place
-  pub piece-channel : (w : ℕ) → f.channels < channels → place_of f + 40 ≤ length r → channel_of (part r (place_of f) 40) ≡ Word w
-      → channel_piece f.channels f.active w ≡ Channel w → piece_at r channels f ≡ Channel w
+  pub piece-channel : (w : ℕ) → f.channels < channels → place_of f + 40 ≤ length r → channel_of (part r (place_of f) 40) ≡ Ok w
+      → channel_piece f.channels f.active w ≡ accepted (Channel w) → piece_at r channels f ≡ accepted (Channel w)
   unfolding piece_at
   piece-channel w more fits word right =
       rw (
@@ -52,7 +50,7 @@ module _ (r : Row) (channels : ℕ) (f : Frame) where
 
   -- a command that is not one too many
   pub piece-command : (c : ℕ) → length f.commands < 255 → place_of f + 10 ≤ length r → c < 16 → command_of (window r (place_of f) 10) ≡ c
-      → piece_at r channels f ≡ Command c
+      → piece_at r channels f ≡ accepted (Command c)
   unfolding piece_at
   piece-command c few fits known e =
       rw (
@@ -64,15 +62,15 @@ module _ (r : Row) (channels : ℕ) (f : Frame) where
       )
 
   -- the end, with all channels and command 0
-  pub piece-end : place_of f ≡ length r → f.channels ≡ channels → synced f.commands ≡ true → piece_at r channels f ≡ End
+  pub piece-end : place_of f ≡ length r → f.channels ≡ channels → synced f.commands ≡ true → piece_at r channels f ≡ accepted End
   unfolding piece_at
   piece-end at all with-sync = rw (eq-eqb (place_of f) (length r) at, eq-eqb f.channels channels all, with-sync)
 
 -- ---- the ways out at a boundary after n channels and s commands
 
-module _ (r : Row) (channels n active s bits : ℕ) (commands : List ℕ) (many : length commands ≡ s) (width : length r ≡ bits) where
-  abbrev piece : Piece
-  piece = piece_at r channels (sofar n active commands [])
+module _ (r : Row) (channels n active s bits : ℕ) (commands words : List ℕ) (many : length commands ≡ s) (width : length r ≡ bits) where
+  abbrev piece : Answer Piece
+  piece = piece_at r channels (sofar n active commands words)
 
   pub at-end : boundary n s ≡ bits → end_of channels n commands (boundary n s) ≡ piece
   unfolding piece_at
@@ -83,7 +81,7 @@ module _ (r : Row) (channels n active s bits : ℕ) (commands : List ℕ) (many 
   at-short apart h = rw (many, width, ne_eqb (boundary n s) bits apart, lt-ltb bits (boundary n s + 40) h)
 
   module _ (fits : boundary n s + 40 ≤ bits) where
-    pub at-word : (w : ℕ) → channel_of (part r (boundary n s) 40) ≡ Word w → pick (eqb n channels) (NoPiece 10 (boundary n s)) (channel_piece n active w) ≡ piece
+    pub at-word : (w : ℕ) → channel_of (part r (boundary n s) 40) ≡ Ok w → due_piece channels n active (Ok w) (boundary n s) ≡ piece
     unfolding piece_at
     at-word w e =
         rw (
@@ -102,7 +100,7 @@ module _ (r : Row) (channels n active s bits : ℕ) (commands : List ℕ) (many 
         rw (many, width, ne_eqb (boundary n s) bits (λ q. absurd (omega arith)), le-leb (boundary n s + 10) bits (omega arith), ← e, lt-ltb c 16 known)
 
     pub at-no-word : (c : ℕ) → c ≡ command_of (window r (boundary n s) 10) → 16 ≤ c → (b : Row) → b ≡ part r (boundary n s) 40
-        → pick (eqb n channels) (NoPiece 10 (boundary n s)) (channel_at (boundary n s) n active (channel_of b)) ≡ piece
+        → due_piece channels n active (channel_of b) (boundary n s) ≡ piece
     unfolding piece_at
     at-no-word c e none b same =
         rw (
@@ -122,7 +120,7 @@ module _ (r : Row) (channels n : ℕ) (commands : List ℕ) where
   abbrev here : ℕ
   here = boundary n (length commands)
 
-  plain-right : (w : ℕ) → 0 < n → Plain r here w → channel_piece n n w ≡ Channel w
+  plain-right : (w : ℕ) → 0 < n → Plain r here w → channel_piece n n w ≡ accepted (Channel w)
   plain-right w some plain =
       let low : w / 1 % 2 ≡ 0 = rw div-one (omega arith) in
       let one : w / 2 % 2 ≡ 1 = omega arith in
@@ -135,7 +133,7 @@ module _ (r : Row) (channels n : ℕ) (commands : List ℕ) where
       let one : w / 2 % 2 ≡ 1 = omega arith in
       let two : w % 4 ≡ 2 = plain.1 in
       let k : channels + 256 - (n + length commands + 1) ≡ channels + 256 - (n + 1 + length commands) = omega arith in
-      sym (read_step r channels (sofar n n commands words) (omega arith) few (Channel w)
+      sym (read_step r channels (sofar n n commands words) (omega arith) few (accepted (Channel w))
       (piece-channel r channels (sofar n n commands words) w more fits plain.0 (plain-right w some plain)) ∙ rw (one, two, k))
 
   -- a command more
@@ -144,5 +142,5 @@ module _ (r : Row) (channels n : ℕ) (commands : List ℕ) where
   command-on c active most few fits known e words =
       let k : channels + 256 - (n + length commands + 1) ≡ channels + 256 - (n + length (commands ++ (c ∷ []))) =
       omega (arith, length-append commands (c ∷ [])) in
-      sym (read_step r channels (sofar n active commands words) most (omega arith) (Command c)
+      sym (read_step r channels (sofar n active commands words) most (omega arith) (accepted (Command c))
       (piece-command r channels (sofar n active commands words) c few fits known e) ∙ rw k)

@@ -1,25 +1,23 @@
 -- What reading a MADI frame means: from the bits that a line carries, boundary by boundary. Assumes nothing.
-use Rattle.std.specs.Prelude.{ℕ, zero, suc, ◌+◌, ◌*◌, ◌-◌, ◌/◌, Bool, ◌&&◌, List, [], ◌∷◌, ◌++◌, eqb, ltb, leb, length, replicate}
+use Rattle.std.specs.Prelude.{ℕ, zero, suc, ◌+◌, ◌*◌, ◌-◌, ◌/◌, Bool, ◌&&◌, List, [], ◌∷◌, ◌++◌}
+use Rattle.std.specs.Prelude.{eqb, ltb, leb, length, replicate, Ok, Err, Result}
 use Rattle.bits.specs.Pick.{pick}
 use Rattle.bits.specs.Row.{Row, odd, bit}
 use Rattle.bits.specs.Window.{part, window}
 use Rattle.bits.specs.Pack.{symbols}
-use Rattle.answer.specs.Answer.{Answer, Answer.accepted, Answer.refused}
+use Rattle.answer.specs.Answer.{Answer, Answer.accepted, Answer.refused, mapped}
+use Rattle.answer.specs.Said.{said}
+use Rattle.answer.specs.declared.Refusal.{Refusal}
 use Rattle.answer.specs.Demand.{Demand, Demand.asks, provided}
 use Rattle.subframe.specs.Body.{even_body}
 use Rattle.line.specs.Nrzi.{changes}
 use Rattle.madi_code.specs.Frame.{counted, boundary, synced}
 pub use Rattle.madi_code.specs.Frame.{cleared}
 use Rattle.madi_code.specs.Groups.{command_of}
-use Rattle.madi_code.specs.Channels.{channel_of}
-use Rattle.madi_code.specs.declared.ChannelBits.{ChannelBits}
-use Rattle.madi_code.specs.declared.ChannelBits.TheVariants.{Word, Broken}
+use Rattle.madi_code.specs.Channels.{ChannelBits, channel_of}
 use Rattle.madi_read.specs.declared.Piece.{Piece}
 use Rattle.madi_read.specs.declared.Piece.TheVariants.{End, Command, Channel}
-use Rattle.madi_read.specs.declared.Piece.TheVariants.{Refused as NoPiece}
-use Rattle.madi_read.specs.declared.ReadAnswer.{ReadAnswer}
-use Rattle.madi_read.specs.declared.ReadAnswer.TheVariants.{Read}
-use Rattle.madi_read.specs.declared.ReadAnswer.TheVariants.{Refused as NotRead}
+use Rattle.madi_read.specs.declared.Counts.{Counts}
 
 -- the bits that a line of so many bits carries, after a level
 unfoldable pub carried : ℕ → ℕ → List ℕ → Row
@@ -61,14 +59,14 @@ abbrev pub active_right : ℕ → ℕ → ℕ → Bool
 active_right n active w = pick (eqb (bit 1 w) 1) (eqb n active) (eqb w 0)
 
 -- the word of channel n after so many active ones: 12, then 9
-abbrev pub channel_piece : ℕ → ℕ → ℕ → Piece
+abbrev pub channel_piece : ℕ → ℕ → ℕ → Answer Piece
 channel_piece n active w =
-    pick (first_right n w && active_right n active w) (pick (even_body w) (Channel w) (NoPiece 9 n)) (NoPiece 12 n)
+    pick (first_right n w && active_right n active w) (pick (even_body w) (accepted (Channel w)) (refused 9 n)) (refused 12 n)
 
 -- its 40 bits at a boundary: 11, then 12, then 9
-abbrev pub channel_at : ℕ → ℕ → ℕ → ChannelBits → Piece
-channel_at at n active (Broken g) = NoPiece 11 (at + 5 * g)
-channel_at at n active (Word w) = channel_piece n active w
+abbrev pub channel_at : ℕ → ℕ → ℕ → ChannelBits → Answer Piece
+channel_at at n active (Err broken) = refused 11 (at + 5 * broken.group)
+channel_at at n active (Ok w) = channel_piece n active w
 
 -- ---- a boundary
 
@@ -77,31 +75,31 @@ abbrev pub is_command : Row → ℕ → Bool
 is_command r at = leb (at + 10) (length r) && ltb (command_of (window r at 10)) 16
 
 -- an end with channels missing or no command 0: 10
-abbrev pub end_of : ℕ → ℕ → List ℕ → ℕ → Piece
-end_of channels n commands at = pick (eqb n channels && synced commands) End (NoPiece 10 at)
+abbrev pub end_of : ℕ → ℕ → List ℕ → ℕ → Answer Piece
+end_of channels n commands at = pick (eqb n channels && synced commands) (accepted End) (refused 10 at)
 
 -- a command after s of them; a 256th: 10
-abbrev pub command_piece : ℕ → ℕ → ℕ → Piece
-command_piece c s at = pick (ltb s 255) (Command c) (NoPiece 10 at)
+abbrev pub command_piece : ℕ → ℕ → ℕ → Answer Piece
+command_piece c s at = pick (ltb s 255) (accepted (Command c)) (refused 10 at)
 
 -- what stands at the boundary: the end; a command if the next ten bits are one; otherwise 40 bits of channel, where
 -- fewer than 40 bits left or a channel too many is 10
-unfoldable pub piece_at : Row → ℕ → Frame → Piece
+unfoldable pub piece_at : Row → ℕ → Frame → Answer Piece
 piece_at r channels f =
     pick (eqb (place_of f) (length r)) (end_of channels f.channels f.commands (place_of f))
     (pick (is_command r (place_of f)) (command_piece (command_of (window r (place_of f) 10)) (length f.commands) (place_of f))
-    (pick (ltb (length r) (place_of f + 40)) (NoPiece 10 (place_of f))
-    (pick (eqb f.channels channels) (NoPiece 10 (place_of f))
+    (pick (ltb (length r) (place_of f + 40)) (refused 10 (place_of f))
+    (pick (eqb f.channels channels) (refused 10 (place_of f))
     (channel_at (place_of f) f.channels f.active (channel_of (part r (place_of f) 40))))))
 
 -- ---- a frame
 
 -- how reading goes on after a piece
-abbrev pub onward : (Frame → Answer Frame) → Frame → Piece → Answer Frame
-onward on f End = accepted f
-onward on f (Command c) = on (with_command c f)
-onward on f (Channel w) = on (with_channel w f)
-onward on f (NoPiece number place) = refused number place
+abbrev pub onward : (Frame → Answer Frame) → Frame → Answer Piece → Answer Frame
+onward on f (accepted End) = accepted f
+onward on f (accepted (Command c)) = on (with_command c f)
+onward on f (accepted (Channel w)) = on (with_channel w f)
+onward on f (refused number place) = refused number place
 
 -- reading on from a boundary, at most k pieces
 unfoldable pub read_on : Row → ℕ → ℕ → Frame → Answer Frame
@@ -146,7 +144,6 @@ commands_of f = list_of f.commands
 abbrev pub words_of : Frame → List ℕ
 words_of f = f.words
 
--- what the enum says
-abbrev pub frame_said : ReadAnswer → Answer (ℕ × ℕ)
-frame_said (Read active s) = accepted (active, s)
-frame_said (NotRead n p) = refused n p
+-- what a result of `Counts` says
+abbrev pub frame_said : Result Counts Refusal → Answer (ℕ × ℕ)
+frame_said r = mapped (λ c. (c.active, c.commands)) (said r)

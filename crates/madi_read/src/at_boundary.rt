@@ -1,17 +1,19 @@
 // What stands at a boundary: the end of a frame, a command, a channel, or a refusal.
-ghost use Rattle.std.specs.Prelude.{◌≡◌, [], eqb, ◌*◌, ◌<◌, ◌≤◌, length, take};
+ghost use Rattle.std.specs.Prelude.{◌≡◌, ◌<◌, ◌≤◌, take};
 ghost use Rattle.bits.specs.Pick.{pick};
-ghost use Rattle.bits.specs.Row.{big_bits};
+ghost use Rattle.answer.specs.Answer.{accepted, refused};
+ghost use Rattle.answer.specs.Said.{said};
 ghost use Rattle.subframe.specs.Body.{even_body};
-ghost use Rattle.madi_code.specs.Frame.{boundary};
-ghost use Rattle.madi_code.specs.Channels.{channel_of};
-ghost use Rattle.madi_code.specs.Inner.{Means};
-ghost use Rattle.madi_read.specs.Reader.{carried, first_right, active_right, channel_piece, channel_at, end_of, command_piece, piece_at};
-ghost use Rattle.madi_read.specs.Inner.{sofar, short_piece};
-ghost use Rattle.madi_read.specs.declared.Piece.TheVariants.{Channel as AChannel, Refused as NoPiece};
+ghost use Rattle.madi_code.specs.declared.Broken.{Broken};
+ghost use Rattle.madi_read.specs.Reader.{first_right, active_right, channel_piece, end_of, command_piece};
+ghost use Rattle.madi_read.specs.Reader.{piece_at};
+ghost use Rattle.madi_read.specs.Inner.{row_of, frame_of, due_piece, short_piece, Fits};
+ghost use Rattle.madi_read.specs.declared.Piece.TheVariants.{Channel as AChannel};
 
-use crate::{Piece, line_bits};
-use madi_code::ChannelBits;
+use crate::line_bits::Source;
+use crate::{Piece, SoFar, commands};
+use answer::Refusal;
+use madi_code::Broken;
 
 // Bit 0 is set on channel 0 only.
 fn first_right(n: u32, w: u32) -> bool
@@ -34,143 +36,98 @@ fn active_right(n: u32, active: u32, w: u32) -> bool
 }
 
 // A channel's word whose required bits are right: its parity.
-fn even_piece(n: u32, w: u32) -> Piece
-    ensures { result ≡ pick (even_body w) (AChannel w) (NoPiece 9 n) }
+fn even_piece(n: u32, w: u32) -> Result<Piece, Refusal>
+    ensures { said result ≡ pick (even_body w) (accepted (AChannel w)) (refused 9 n) }
 {
     if subframe::parity(w) == 0 {
-        return Piece::Channel(w);
+        return Ok(Piece::Channel(w));
     }
-    Piece::Refused {
-        number: 9,
-        place: n,
-    }
+    Err(Refusal::Parity(n))
 }
 
 // A channel's word in its place: its required bits, then its parity.
-fn channel_piece(n: u32, active: u32, w: u32) -> Piece
-    ensures { result ≡ channel_piece n active w }
+fn channel_piece(n: u32, active: u32, w: u32) -> Result<Piece, Refusal>
+    ensures { said result ≡ channel_piece n active w }
 {
-    if first_right(n, w) {
-        if active_right(n, active, w) {
-            return even_piece(n, w);
-        }
+    if first_right(n, w) && active_right(n, active, w) {
+        return even_piece(n, w);
     }
-    Piece::Refused {
-        number: 12,
-        place: n,
-    }
+    Err(Refusal::State(n))
 }
 
-// A channel's word, where a channel is due.
-fn word_piece(channels: u32, n: u32, active: u32, w: u32, at: u32) -> Piece
-    ensures { result ≡ pick (eqb n channels) (NoPiece 10 at) (channel_piece n active w) }
+// What 40 bits are as a channel, where one is due.
+fn due_piece(
+    channels: u32,
+    so_far: &SoFar,
+    c: Result<u32, Broken>,
+    at: u32,
+) -> Result<Piece, Refusal>
+    requires place { at ≤ 5110 }
+    requires group { (broken : Broken) → c ≡ Err broken → broken.group < 8 }
+    ensures { said result ≡ due_piece channels so_far.now.channels so_far.now.active c at }
 {
-    if n == channels {
-        return Piece::Refused {
-            number: 10,
-            place: at,
-        };
+    if so_far.channels == channels {
+        return Err(Refusal::Frame(at));
     }
-    channel_piece(n, active, w)
-}
-
-// The same of 40 bits, group by group.
-fn no_word(channels: u32, n: u32, active: u32, v: u64, at: u32) -> Piece
-    requires { at ≤ 5110 }
-    ensures { result ≡ pick (eqb n channels) (NoPiece 10 at) (channel_at at n active (channel_of (big_bits 40 v))) }
-{
-    if n == channels {
-        return Piece::Refused {
-            number: 10,
-            place: at,
-        };
-    }
-    let c = madi_code::channel_of(v);
     match c {
-        ChannelBits::Word(w) => channel_piece(n, active, w),
-        ChannelBits::Broken(g) => Piece::Refused {
-            number: 11,
-            place: at + 5 * g,
-        },
+        Ok(w) => channel_piece(so_far.channels, so_far.active, w),
+        Err(broken) => Err(Refusal::Group(at + 5 * broken.group)),
     }
 }
 
 // The end of a frame: all channels, and command 0 among those that came.
-fn end_of(channels: u32, came: u32, codes: &[u8], s: u32, at: u32) -> Piece
-    ensures { result ≡ end_of channels came (take s codes.now) at }
+fn end_of(channels: u32, so_far: &SoFar, at: u32) -> Result<Piece, Refusal>
+    ensures { said result ≡ end_of channels so_far.now.channels (take so_far.now.commands so_far.now.codes) at }
 {
-    if came == channels {
-        if madi_code::has_sync(codes, s as usize) {
-            return Piece::End;
-        }
+    let all = so_far.channels == channels;
+    if all && madi_code::has_sync(&so_far.codes, so_far.commands as usize) {
+        return Ok(Piece::End);
     }
-    Piece::Refused {
-        number: 10,
-        place: at,
-    }
+    Err(Refusal::Frame(at))
 }
 
 // A command after s of them: a 256th is one too many.
-fn command_piece(c: u32, s: u32, at: u32) -> Piece
-    ensures { result ≡ command_piece c s at }
+fn command_piece(c: u32, s: u32, at: u32) -> Result<Piece, Refusal>
+    ensures { said result ≡ command_piece c s at }
 {
     if s < 255 {
-        return Piece::Command(c);
+        return Ok(Piece::Command(c));
     }
-    Piece::Refused {
-        number: 10,
-        place: at,
-    }
+    Err(Refusal::Frame(at))
 }
 
 // What stands where fewer than 40 bits are left, and at least one: a command, or no whole unit.
-fn short_piece(line: &[u8], level: u32, bits: u32, s: u32, at: u32) -> Piece
-    requires { (level ≤ 1) × (bits ≤ 5110) × (bits ≤ length line.now * 8) × (at < bits) }
-    ensures { result ≡ short_piece (carried level bits line.now) s at }
+fn short_piece(source: &Source, s: u32, at: u32) -> Result<Piece, Refusal>
+    requires { at < source.now.bits }
+    ensures { said result ≡ short_piece (row_of source.now) s at }
 {
-    if at + 10 <= bits {
-        let c = madi_code::command_of(line_bits::bits_at(line, level, at as usize, 10));
-        if c < 16 {
+    if at + 10 <= source.bits {
+        if let Some(c) = commands::command(source.bits_at(at as usize, 10)) {
             return command_piece(c, s, at);
         }
     }
-    Piece::Refused {
-        number: 10,
-        place: at,
-    }
+    Err(Refusal::Frame(at))
 }
 
-// What stands at the boundary after n channels and s commands, which are in codes. The table is that of meanings. No
-// channel begins with a command, so that ten bits are looked up only where 40 are no channel.
-pub(crate) fn piece_at(
-    table: &[u8; 32],
-    line: &[u8],
-    level: u32,
-    channels: u32,
-    bits: u32,
-    n: u32,
-    active: u32,
-    codes: &[u8],
-    s: u32,
-) -> Piece
-    requires { Means table.now × (level ≤ 1) × (bits ≤ 5110) × (bits ≤ length line.now * 8) × (s ≤ length codes.now) × (boundary n s ≤ bits) }
-    ensures { result ≡ piece_at (carried level bits line.now) channels (sofar n active (take s codes.now) []) }
+// What stands at the boundary that reading has come to. No channel begins with a command, so that ten bits are looked
+// up only where 40 are no channel.
+pub(crate) fn piece_at(source: &Source, so_far: &SoFar) -> Result<Piece, Refusal>
+    requires { Fits source.now so_far.now }
+    ensures { said result ≡ piece_at (row_of source.now) source.now.channels (frame_of so_far.now) }
 {
-    let at = 40 * n + 10 * s;
-    if at == bits {
-        return end_of(channels, n, codes, s, at);
+    let at = 40 * so_far.channels + 10 * so_far.commands;
+    if at == source.bits {
+        return end_of(source.channels, so_far, at);
     }
-    if bits < at + 40 {
-        return short_piece(line, level, bits, s, at);
+    if source.bits < at + 40 {
+        return short_piece(source, so_far.commands, at);
     }
-    let v = line_bits::bits_at(line, level, at as usize, 40);
-    let w = madi_code::word_by(table, v);
-    if w < 0x1_0000_0000 {
-        return word_piece(channels, n, active, w as u32, at);
+    let v = source.bits_at(at as usize, 40);
+    if let Some(w) = source.word(v) {
+        return due_piece(source.channels, so_far, Ok(w), at);
     }
-    let c = madi_code::command_of(v / 0x4000_0000);
-    if c < 16 {
-        return command_piece(c, s, at);
+    if let Some(c) = commands::command(v / 0x4000_0000) {
+        return command_piece(c, so_far.commands, at);
     }
-    no_word(channels, n, active, v, at)
+    due_piece(source.channels, so_far, madi_code::channel_of(v), at)
 }

@@ -5,30 +5,44 @@ ghost use Rattle.std.specs.Prelude.{◌≡◌, ◌&&◌, ◌+◌, ◌*◌, ◌/�
 ghost use Rattle.bits.specs.Row.{bit};
 ghost use Rattle.answer.specs.Answer.{mapped, after};
 ghost use Rattle.madi_code.specs.Frame.{counted};
-ghost use Rattle.madi_read.specs.Reader.{carried, cleared as word_cleared, row_read, spare_zero, frame_read, counts_of, words_of};
-ghost use Rattle.madi_read.specs.Reader.{commands_of, frame_said};
-ghost use Rattle.madi_read.specs.Inner.{Listed, Held};
+ghost use Rattle.madi_read.specs.Reader.{cleared as word_cleared, at_start, row_read, spare_zero, frame_read};
+ghost use Rattle.madi_read.specs.Reader.{counts_of, words_of, commands_of, frame_said};
+ghost use Rattle.madi_read.specs.Inner.{row_of, frame_of, Held, Listed, Fits};
 
 mod at_boundary;
-mod copies;
+mod commands;
 mod line_bits;
 mod on_end;
 
+use answer::Refusal;
+use line_bits::Source;
+
 // What stands at a boundary of a frame.
-#[derive(Clone, Copy)]
+#[derive(Clone, Copy, Debug, PartialEq, Eq)]
 pub enum Piece {
     End,
     Command(u32),
     Channel(u32),
-    Refused { number: u32, place: u32 },
 }
 
-// What reading a frame answers: how many channels are active and how many commands came, or a refusal's number and
-// place.
-#[derive(Clone, Copy)]
-pub enum ReadAnswer {
-    Read { active: u32, commands: u32 },
-    Refused { number: u32, place: u32 },
+// What reading a frame answers: how many channels are active and how many commands came.
+#[derive(Clone, Copy, Debug, PartialEq, Eq)]
+pub struct Counts {
+    pub active: u32,
+    pub commands: u32,
+}
+
+// A frame as far as it was read: its channels, how many of them are active, its commands; the channels' words, and the
+// commands' list. It is held here until the last unit is accepted. That it fits its source is a fact about two values, so
+// it stands in contracts, and in no field of either.
+// Arrays with their counts beside them: memory is fixed, and the list goes out whole, with zeros behind its commands.
+#[derive(Clone, Copy, Debug)]
+struct SoFar {
+    channels: u32,
+    active: u32,
+    commands: u32,
+    words: [u32; 64],
+    codes: [u8; 255],
 }
 
 // A word without its marks, bits 0 and 1.
@@ -45,54 +59,44 @@ fn active_bit(w: u32) -> u32
     w / 2 % 2
 }
 
-// A list of 255 with no command in it.
-fn no_commands() -> [u8; 255]
-    ensures { Listed 0 result }
+// A frame of which nothing was read.
+fn nothing_read() -> SoFar
+    ensures { (frame_of result ≡ at_start) × (length result.words ≡ 64) × Listed 0 result.codes }
 {
-    [0; 255]
+    SoFar {
+        channels: 0,
+        active: 0,
+        commands: 0,
+        words: [0; 64],
+        codes: [0; 255],
+    }
 }
 
-// The frame, piece by piece, but for channels and commands on end. Its words go to held, its commands to codes.
-fn walk(
-    line: &[u8],
-    level: u32,
-    channels: u32,
-    bits: u32,
-    held: &mut [u32],
-    codes: &mut [u8],
-) -> ReadAnswer
-    requires { (level ≤ 1) × (bits ≤ 5110) × (bits ≤ length line.now * 8) × (channels ≤ 64) × (length held.old ≡ 64) × Listed 0 codes.old }
-    ensures result_value { frame_said result ≡ mapped counts_of (row_read (carried level bits line.now) channels) }
-    ensures held { Held channels (row_read (carried level bits line.now) channels) held.new codes.new }
+// The frame, piece by piece, but for channels and commands on end.
+fn walk(source: &Source, so_far: &mut SoFar) -> Result<Counts, Refusal>
+    requires { Fits source.now so_far.old × (frame_of so_far.old ≡ at_start) }
+    ensures result_value { frame_said result ≡ mapped counts_of (row_read (row_of source.now) source.now.channels) }
+    ensures held { Held source.now.channels (row_read (row_of source.now) source.now.channels) so_far.new.words so_far.new.codes }
 {
-    let table = madi_code::meanings();
-    let mut n: u32 = 0;
-    let mut active: u32 = 0;
-    let mut s: u32 = 0;
+    // no index: what stands at the boundary says whether there is another turn
     loop {
-        let m = on_end::channels_on(&table, line, level, channels, bits, n, active, s, held);
-        active += m - n;
-        n = m;
-        s = on_end::commands_on(line, level, channels, bits, n, s, codes);
-        let p = at_boundary::piece_at(&table, line, level, channels, bits, n, active, codes, s);
-        match p {
+        on_end::channels_on(source, so_far);
+        on_end::commands_on(source, so_far);
+        match at_boundary::piece_at(source, so_far)? {
             Piece::End => {
-                return ReadAnswer::Read {
-                    active,
-                    commands: s,
-                };
+                return Ok(Counts {
+                    active: so_far.active,
+                    commands: so_far.commands,
+                });
             }
             Piece::Command(c) => {
-                codes[s as usize] = c as u8;
-                s += 1;
+                so_far.codes[so_far.commands as usize] = c as u8;
+                so_far.commands += 1;
             }
             Piece::Channel(w) => {
-                held[n as usize] = cleared(w);
-                active += active_bit(w);
-                n += 1;
-            }
-            Piece::Refused { number, place } => {
-                return ReadAnswer::Refused { number, place };
+                so_far.words[so_far.channels as usize] = cleared(w);
+                so_far.active += active_bit(w);
+                so_far.channels += 1;
             }
         }
     }
@@ -107,61 +111,31 @@ fn spare_zero(bits: u32, line: &[u8]) -> bool
 }
 
 // Reads a frame whose numbers and lengths are right.
-fn read_checked(
-    channels: u32,
-    level: u32,
-    bits: u32,
-    line: &[u8],
-    words: &mut [u32],
-    commands: &mut [u8],
-) -> ReadAnswer
-    requires { (level ≤ 1) × (bits ≤ 5110) × (bits ≤ length line.now * 8) × (channels ≤ 64) × (length words.old ≡ channels) × (length commands.old ≡ 255) }
-    ensures result_value { frame_said result ≡ mapped counts_of (row_read (carried level bits line.now) channels) }
-    ensures words_after { words.new ≡ after words_of (row_read (carried level bits line.now) channels) words.old }
-    ensures commands_after { commands.new ≡ after commands_of (row_read (carried level bits line.now) channels) commands.old }
+fn read_checked(source: &Source, words: &mut [u32], commands: &mut [u8]) -> Result<Counts, Refusal>
+    requires { (length words.old ≡ source.now.channels) × (length commands.old ≡ 255) }
+    ensures result_value { frame_said result ≡ mapped counts_of (row_read (row_of source.now) source.now.channels) }
+    ensures words_after { words.new ≡ after words_of (row_read (row_of source.now) source.now.channels) words.old }
+    ensures commands_after { commands.new ≡ after commands_of (row_read (row_of source.now) source.now.channels) commands.old }
 {
-    let mut held = [0u32; 64];
-    let mut codes = no_commands();
-    let answer = walk(line, level, channels, bits, &mut held, &mut codes);
-    match answer {
-        ReadAnswer::Read {
-            active,
-            commands: came,
-        } => {
-            copies::words(&held, words);
-            copies::octets(&codes, commands);
-            ReadAnswer::Read {
-                active,
-                commands: came,
-            }
-        }
-        ReadAnswer::Refused { number, place } => ReadAnswer::Refused { number, place },
-    }
+    let mut so_far = nothing_read();
+    let counts = walk(source, &mut so_far)?;
+    words.copy_from_slice(&so_far.words[..words.len()]);
+    commands.copy_from_slice(&so_far.codes);
+    Ok(counts)
 }
 
 // Whether these are 56 or 64 channels, a level, and no more bits than the longest frame has.
 fn numbers_right(channels: u32, level: u32, bits: u32) -> bool
     ensures { result ≡ (counted channels && (leb level 1 && leb bits 5110)) }
 {
-    if madi_code::is_counted(channels) {
-        if level <= 1 {
-            return bits <= 5110;
-        }
-    }
-    false
+    madi_code::is_counted(channels) && level <= 1 && bits <= 5110
 }
 
 // Whether the buffers have the exact lengths.
 fn lengths_right(channels: u32, bits: u32, octets: usize, words: usize, commands: usize) -> bool
-    requires { bits ≤ 5110 }
     ensures { result ≡ (eqb octets ((bits + 7) / 8) && (eqb words channels && eqb commands 255)) }
 {
-    if octets == (bits as usize + 7) / 8 {
-        if words == channels as usize {
-            return commands == 255;
-        }
-    }
-    false
+    octets == bits.div_ceil(8) as usize && words == channels as usize && commands == 255
 }
 
 // Reads a frame of so many bits, after a level: every word of it goes to words, and its commands to commands.
@@ -172,28 +146,26 @@ pub fn read_frame(
     line: &[u8],
     words: &mut [u32],
     commands: &mut [u8],
-) -> ReadAnswer
+) -> Result<Counts, Refusal>
     ensures result_value { frame_said result ≡ mapped counts_of (frame_read channels level bits line.now (length words.old) (length commands.old)) }
     ensures words_after { words.new ≡ after words_of (frame_read channels level bits line.now (length words.old) (length commands.old)) words.old }
     ensures commands_after { commands.new ≡ after commands_of (frame_read channels level bits line.now (length words.old) (length commands.old)) commands.old }
 {
-    if numbers_right(channels, level, bits) {
-        if lengths_right(channels, bits, line.len(), words.len(), commands.len()) {
-            if spare_zero(bits, line) {
-                return read_checked(channels, level, bits, line, words, commands);
-            }
-            return ReadAnswer::Refused {
-                number: 2,
-                place: 0,
-            };
-        }
-        return ReadAnswer::Refused {
-            number: 1,
-            place: 0,
-        };
+    if !numbers_right(channels, level, bits) {
+        return Err(Refusal::Range);
     }
-    ReadAnswer::Refused {
-        number: 2,
-        place: 0,
+    if !lengths_right(channels, bits, line.len(), words.len(), commands.len()) {
+        return Err(Refusal::Length);
     }
+    if !spare_zero(bits, line) {
+        return Err(Refusal::Range);
+    }
+    let source = Source {
+        line,
+        level,
+        bits,
+        channels,
+        table: madi_code::meanings(),
+    };
+    read_checked(&source, words, commands)
 }

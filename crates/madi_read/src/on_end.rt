@@ -1,95 +1,73 @@
 // What most of a frame is, several pieces on end: active channels, and commands after all channels.
-ghost use Rattle.std.specs.Prelude.{◌≡◌, List, ℕ, ◌+◌, ◌*◌, ◌-◌, ◌<◌, ◌≤◌, length, take};
-ghost use Rattle.madi_code.specs.Frame.{boundary};
-ghost use Rattle.madi_code.specs.Inner.{Means};
-ghost use Rattle.madi_read.specs.Reader.{carried};
-ghost use Rattle.madi_read.specs.Inner.{sofar, Listed, Plain, Reached};
+ghost use Rattle.std.specs.Prelude.{◌≡◌, ◌+◌, ◌≤◌, IfSome};
+ghost use Rattle.madi_read.specs.Inner.{row_of, frame_of, Plain, Reached, Fits};
 
-use crate::line_bits;
+use crate::line_bits::Source;
+use crate::{SoFar, commands};
 
-// The word of the 40 bits from bit `at` on, where they are an active channel, not the first of its frame, and even;
-// else 0.
-fn plain(table: &[u8; 32], line: &[u8], level: u32, at: usize) -> u32
-    requires { Means table.now × (level ≤ 1) × (at + 40 ≤ length line.now * 8) }
-    ensures { 0 < result → (bits : ℕ) → bits ≤ length line.now * 8 → at + 40 ≤ bits → Plain (carried level bits line.now) at result }
+// The word of the 40 bits from bit `at` on, where they are an active channel, not the first of its frame, and even.
+fn plain(source: &Source, at: usize) -> Option<u32>
+    requires { at + 40 ≤ source.now.bits }
+    ensures { IfSome result (λ w. Plain (row_of source.now) at w) }
 {
-    let w = madi_code::word_by(table, line_bits::bits_at(line, level, at, 40));
-    if w < 0x1_0000_0000 {
-        if w % 4 == 2 {
-            if subframe::parity(w as u32) == 0 {
-                return w as u32;
-            }
-        }
+    let w = source.word(source.bits_at(at, 40))?;
+    if w % 4 == 2 && subframe::parity(w) == 0 {
+        return Some(w);
     }
-    0
+    None
 }
 
-// Active channels on end, after none that is not active: the count of channels then. Their words go to held.
-pub(crate) fn channels_on(
-    table: &[u8; 32],
-    line: &[u8],
-    level: u32,
-    channels: u32,
-    bits: u32,
-    n: u32,
-    active: u32,
-    s: u32,
-    held: &mut [u32],
-) -> u32
-    requires { Means table.now × (level ≤ 1) × (bits ≤ 5110) × (bits ≤ length line.now * 8) × (channels ≤ 64) × (length held.old ≡ 64) × (n ≤ channels) × (s ≤ 255) × (boundary n s ≤ bits) }
-    ensures { (n ≤ result) × (result ≤ channels) × (boundary result s ≤ bits) × (length held.new ≡ 64) × ((commands : List ℕ) → length commands ≡ s → Reached (carried level bits line.now) channels (sofar n active commands (take n held.old)) (sofar result (active + (result - n)) commands (take result held.new))) }
+// Active channels on end, after none that is not active. Their count is held in a local while the loop runs: stored
+// in each turn, it takes a frame 4 per cent longer.
+pub(crate) fn channels_on(source: &Source, so_far: &mut SoFar)
+    requires { Fits source.now so_far.old }
+    ensures fits { Fits source.now so_far.new }
+    ensures further { so_far.old.channels ≤ so_far.new.channels }
+    ensures same_commands { so_far.old.commands ≡ so_far.new.commands }
+    ensures reached { Reached (row_of source.now) source.now.channels (frame_of so_far.old) (frame_of so_far.new) }
 {
-    let mut m = n;
-    if 0 < n {
-        if n == active {
-            while m < channels {
-                let at = 40 * m + 10 * s;
-                if bits < at + 40 {
-                    return m;
-                }
-                let w = plain(table, line, level, at as usize);
-                if w == 0 {
-                    return m;
-                }
-                held[m as usize] = w - 2;
-                m += 1;
-            }
-        }
+    if so_far.channels == 0 || so_far.channels != so_far.active {
+        return;
     }
-    m
+    let mut came = so_far.channels;
+    for n in so_far.channels..source.channels {
+        let at = 40 * n + 10 * so_far.commands;
+        if source.bits < at + 40 {
+            break;
+        }
+        let Some(w) = plain(source, at as usize) else {
+            break;
+        };
+        so_far.words[n as usize] = w - 2;
+        came = n + 1;
+    }
+    so_far.channels = came;
+    so_far.active = came;
 }
 
-// Commands on end, after all channels: the count of commands then. They go to codes.
-pub(crate) fn commands_on(
-    line: &[u8],
-    level: u32,
-    channels: u32,
-    bits: u32,
-    n: u32,
-    s: u32,
-    codes: &mut [u8],
-) -> u32
-    requires { (level ≤ 1) × (bits ≤ 5110) × (bits ≤ length line.now * 8) × (n ≤ channels) × (channels ≤ 64) × (s ≤ 255) × (boundary n s ≤ bits) × Listed s codes.old }
-    ensures { (s ≤ result) × (result ≤ 255) × (boundary n result ≤ bits) × Listed result codes.new × ((active : ℕ) (words : List ℕ) → Reached (carried level bits line.now) channels (sofar n active (take s codes.old) words) (sofar n active (take result codes.new) words)) }
+// Commands on end, after all channels.
+pub(crate) fn commands_on(source: &Source, so_far: &mut SoFar)
+    requires { Fits source.now so_far.old }
+    ensures fits { Fits source.now so_far.new }
+    ensures same_channels { so_far.old.channels ≡ so_far.new.channels }
+    ensures further { so_far.old.commands ≤ so_far.new.commands }
+    ensures reached { Reached (row_of source.now) source.now.channels (frame_of so_far.old) (frame_of so_far.new) }
 {
-    let mut t = s;
-    if n == channels {
-        let places = madi_code::command_places();
-        while t < 255 {
-            let at = 40 * n + 10 * t;
-            if bits < at + 10 {
-                return t;
-            }
-            let c = madi_code::command_by(
-                &places,
-                line_bits::bits_at(line, level, at as usize, 10),
-            );
-            if 15 < c {
-                return t;
-            }
-            codes[t as usize] = c as u8;
-            t += 1;
-        }
+    if so_far.channels != source.channels {
+        return;
     }
-    t
+    let places = madi_code::command_places();
+    let mut came = so_far.commands;
+    for s in so_far.commands..255 {
+        let at = 40 * so_far.channels + 10 * s;
+        if source.bits < at + 10 {
+            break;
+        }
+        let Some(c) = commands::command_by(&places, source.bits_at(at as usize, 10)) else {
+            break;
+        };
+        so_far.codes[s as usize] = c;
+        came = s + 1;
+    }
+    so_far.commands = came;
 }

@@ -1,18 +1,21 @@
 -- What the writer's demands say where all are met, and what meets those of the words. Assumes nothing.
-use mathlib.Core.Path.{◌≡◌, refl, sym, ap, subst}
+use mathlib.Core.Path.{◌≡◌, refl, sym, ap}
 use mathlib.Core.Logic.{⊎_elim}
 use mathlib.Core.Bool.{Bool, true, false, not, ◌&&◌}
 use mathlib.Core.List.{List}
-use Prim.Native.Nat.{ℕ, ◌+◌, ◌%◌, ◌≤◌, ◌<◌}
+use Prim.Native.Nat.{ℕ, ◌%◌, ◌≤◌, ◌<◌}
 use native.Mathlib.Omega.{arith}
 use borrow.Author.Tests.{leb-true, le-leb, eqb-true, eq-eqb}
+use lib.Bits.{bit_or, or_add_and, and_le_l, and_le_r}
 use lib.Dec.{eqb, leb}
 use lib.ListN.{length, get_or, get_or-eq_default}
+use Rattle.std.specs.Ordering.{is_le, nat_cmp}
+use Rattle.std.proofs.lemmas.Bool.Decides.{nat_tests}
 use Rattle.bits.proofs.Tests.{both_true, order}
 use Rattle.answer.specs.Answer.{Answer.accepted}
 use Rattle.answer.specs.Demand.{AllMet, ◌&◌}
 use Rattle.answer.proofs.Chains.{met, passing}
-use Rattle.subframe.specs.Body.{parity_of, even_body}
+use Rattle.subframe.specs.Body.{even_body}
 use Rattle.madi_code.specs.Frame.{counted, numbered, synced}
 use Rattle.madi_code.proofs.FrameLaws.{counted-le, synced-some}
 use Rattle.madi_write.specs.Writer.{needed, frame_octets, is_list, channel_word_demands, write_demands, frame_written}
@@ -21,6 +24,10 @@ use Rattle.madi_write.specs.Inner.{Sound}
 not-not : (t : Bool) → not t ≡ false → t ≡ true
 not-not true e = refl
 not-not false e = sym e
+
+-- the test of a range
+pub le-leb-is : (a b : ℕ) → is_le (nat_cmp a b) ≡ leb a b
+le-leb-is a b = grind (arith, nat_tests)
 
 -- ---- a list of commands
 
@@ -81,16 +88,12 @@ pub sound-met : (words : List ℕ) → Sound words → AllMet (channel_word_dema
 sound-met words sound =
     (λ i l h. ap not (sound i (omega arith)).0) & (λ i l h. ap not (eq-eqb (get_or words i 0 % 4) 0 (sound i (omega arith)).1)) & tt
 
--- one word more
-pub sound_more : (words : List ℕ) (i p : ℕ) → p ≡ parity_of (get_or words i 0)
-    → ((k : ℕ) → k < i → (even_body (get_or words k 0) ≡ true) × (get_or words k 0 % 4 ≡ 0))
-    → p + get_or words i 0 % 4 ≡ 0 → (k : ℕ) → k < i + 1 → (even_body (get_or words k 0) ≡ true) × (get_or words k 0 % 4 ≡ 0)
-sound_more words i p e before z k h =
-    ⊎_elim (λ (l : i ≤ k). let same : i ≡ k = omega arith in subst (λ (j : ℕ). (even_body (get_or words j 0) ≡ true) × (get_or words j 0 % 4 ≡ 0)) same here)
-    (λ (l : k < i). before k l) (order i k)
-  where
-    here : (even_body (get_or words i 0) ≡ true) × (get_or words i 0 % 4 ≡ 0)
-    here = (eq-eqb (parity_of (get_or words i 0)) 0 (omega arith), omega arith)
+-- an or is at least each side
+pub left_in : (a b : ℕ) → a ≤ bit_or a b
+left_in a b = omega (arith, or_add_and a b, and_le_r a b)
+
+pub right-in : (a b : ℕ) → b ≤ bit_or a b
+right-in a b = omega (arith, or_add_and a b, and_le_l a b)
 
 -- ---- accepted exactly if all demands are met
 

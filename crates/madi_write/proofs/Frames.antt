@@ -3,13 +3,13 @@ use mathlib.Core.Path.{◌≡◌, refl, sym, ap, ap₂, ◌∙◌}
 use mathlib.Core.Logic.{⊎_elim}
 use mathlib.Core.List.{List, [], ◌∷◌, ◌++◌, map}
 use Prim.Native.Nat.{ℕ, zero, suc, ◌+◌, ◌*◌, ◌-◌, ◌^◌, ◌≤◌, ◌<◌}
-use native.Mathlib.Nat.{mul_comm, mod-eq_of_lt}
+use native.Mathlib.Nat.{zero-add, mul_comm, mod-eq_of_lt}
 use native.Mathlib.Numerals.{add-one}
 use native.Mathlib.Omega.{arith}
 use borrow.Author.Tests.{lt-ltb, le-ltb, ne_eqb}
 use lib.Dec.{eqb, ltb}
-use lib.ListN.{length, get_or, replicate, length-append, length-replicate, length-map, get_or-replicate, get_or-append}
-use lib.Seq.{get_or-append-add}
+use lib.ListN.{length, get_or, take, drop, replicate, length-take, length-drop, length-append, length-replicate, length-map, get_or-replicate, get_or-append}
+use lib.Seq.{get_or-take, get_or-drop, get_or-append-add}
 use lib.Pow.{pow_mono}
 use Rattle.bits.specs.Pick.{pick}
 use Rattle.bits.specs.Row.{Row, odd, big}
@@ -22,7 +22,9 @@ use Rattle.bits.proofs.Chains.{part-first, part-second, length-chained, part-cha
 use Rattle.line.specs.Nrzi.{levels}
 use Rattle.madi_code.specs.Groups.{command_code, command_row}
 use Rattle.madi_code.specs.Channels.{channel_row}
-use Rattle.madi_code.specs.Frame.{boundary}
+use Rattle.madi_code.specs.Frame.{boundary, numbered}
+use Rattle.madi_code.proofs.FrameLaws.{numbered-at, numbered-all}
+use mathlib.Core.Bool.{true}
 use Rattle.madi_code.proofs.ChannelLaws.{length-channel}
 use Rattle.madi_code.proofs.GroupLaws.{command-small}
 use Rattle.madi_write.specs.Writer.{marked, channel_words, frame_row, needed, frame_octets}
@@ -122,6 +124,31 @@ commands-next commands i k = ap (commands_number commands i) (sym (add-one k))
 pub commands-none : (commands : List ℕ) (i : ℕ) → commands_number commands i 0 ≡ 0
 unfolding commands_number
 commands-none commands i = refl
+
+-- a part of a list, as long as it is to be, with the numbers that stand there
+module _ (commands : List ℕ) (i n : ℕ) (fits : i + n ≤ length commands) where
+  abbrev cut : List ℕ
+  cut = take n (drop i commands)
+
+  pub length-cut : length cut ≡ n
+  length-cut = length-take n (drop i commands) ∙ omega (arith, length-drop i commands)
+
+  cut-at : (k : ℕ) → k < n → get_or cut k 0 ≡ get_or commands (i + k) 0
+  cut-at k h = get_or-take n (drop i commands) k 0 h ∙ get_or-drop i commands k 0
+
+  pub numbered-cut : numbered commands ≡ true → numbered cut ≡ true
+  numbered-cut all = numbered-all cut (λ k h. let l : k < n = omega (arith, length-cut) in
+      rw (cut-at k l) (numbered-at commands all (i + k) (omega arith)))
+
+  first-of : (k : ℕ) → k ≤ n → commands_number cut 0 k ≡ commands_number commands i k
+  unfolding commands_number
+  first-of zero h = refl
+  first-of (suc k) h =
+      ap₂ (λ (x c : ℕ). x * 2 ^ 10 + command_code c) (first-of k (omega arith))
+      (ap (λ (j : ℕ). get_or cut j 0) (zero-add k) ∙ cut-at k (omega arith))
+
+  pub commands-cut : commands_number cut 0 (length cut) ≡ commands_number commands i n
+  commands-cut = ap (commands_number cut 0) length-cut ∙ first-of n (omega arith)
 
 -- four of them are forty bits
 pub commands-lt : (commands : List ℕ) (i k : ℕ) → k ≤ 4 → i + k ≤ length commands → commands_number commands i k < 2 ^ 40

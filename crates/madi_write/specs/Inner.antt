@@ -6,8 +6,11 @@ use Rattle.bits.specs.Row.{Row, odd, big}
 use Rattle.bits.specs.Window.{window}
 use Rattle.subframe.specs.Body.{even_body}
 use Rattle.line.specs.Nrzi.{levels}
-use Rattle.madi_code.specs.Groups.{command_code}
+use Rattle.madi_code.specs.Frame.{numbered}
+use Rattle.madi_code.specs.Groups.{command_codes, command_code}
 use Rattle.madi_code.specs.Channels.{channel_row}
+use Rattle.madi_code.specs.Inner.{group_table}
+use Rattle.madi_write.specs.declared.Frame.{Frame}
 use Rattle.madi_write.specs.Writer.{frame_row, needed, frame_octets}
 
 -- the word of channel b as it is sent
@@ -23,6 +26,17 @@ commands_number commands i (suc k) = commands_number commands i k * 2 ^ 10 + com
 unfoldable pub block_of : ℕ → List ℕ → List ℕ → ℕ → ℕ
 block_of channels words commands b =
     pick (ltb b channels) (big (channel_row (sent_word words b))) (commands_number commands (4 * (b - channels)) 4)
+
+-- what a frame that is laid has
+pub record Ready (f : Frame) : Type 0 where
+  pub at_most : f.channels ≤ 64
+  pub most : length f.words.now ≤ f.channels
+  pub short : length f.commands.now ≤ 255
+  pub named : numbered f.commands.now ≡ true
+  -- past the end of the words too
+  pub clean : (k : ℕ) → get_or f.words.now k 0 % 4 ≡ 0
+  pub sends : f.groups ≡ group_table
+  pub codes : f.codes ≡ command_codes
 
 -- y is the number whose digits, each against the one before, are those of x
 abbrev pub Levels : ℕ → ℕ → Type 0
@@ -60,6 +74,27 @@ Ended channels words commands level line₀ line =
     (old : List ℕ) → needed channels (length commands) ≤ length old
     → line₀ ≡ take (5 * (channels + length commands / 4)) (frame_octets channels words commands level) ++ drop (5 * (channels + length commands / 4)) old
     → line ≡ frame_octets channels words commands level ++ drop (needed channels (length commands)) old
+
+-- the same of a frame that is laid: how many octets it has, the block behind its active channels, the one behind its
+-- last whole block
+module _ (f : Frame) where
+  abbrev pub frame_length : ℕ
+  frame_length = needed f.channels (length f.commands.now)
+
+  abbrev pub active : ℕ
+  active = length f.words.now
+
+  abbrev pub whole : ℕ
+  whole = f.channels + length f.commands.now / 4
+
+  abbrev pub LevelIn : ℕ → ℕ → ℕ → Type 0
+  LevelIn level last b = LevelAt f.channels f.words.now f.commands.now level last b
+
+  abbrev pub PassedIn : ℕ → List ℕ → ℕ → List ℕ → ℕ → ℕ → Type 0
+  PassedIn level line₀ b₀ line last b = Passed f.channels f.words.now f.commands.now level line₀ b₀ line last b
+
+  abbrev pub EndedIn : ℕ → List ℕ → List ℕ → Type 0
+  EndedIn level line₀ line = Ended f.channels f.words.now f.commands.now level line₀ line
 
 -- no word breaks a rule
 abbrev pub Sound : List ℕ → Type 0

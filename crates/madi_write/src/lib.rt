@@ -1,43 +1,34 @@
 // The MADI writer: a block of 40 bits, its levels, its octets; the checks; a frame.
 #![tactic(auto)]
 
-ghost use Rattle.std.specs.Prelude.{◌≡◌, true, ◌&&◌, List, ◌++◌, ℕ, ◌+◌, ◌*◌, ◌/◌, ◌%◌, ◌^◌, ◌<◌, ◌≤◌, leb, length, get_or, drop};
+ghost use Rattle.std.specs.Prelude.{◌≡◌, true, ◌&&◌, ◌++◌, ℕ, ◌+◌, ◌*◌, ◌%◌, ◌^◌, ◌<◌, ◌≤◌, eqb, leb, length, drop};
+ghost use Rattle.bits.specs.Pick.{pick};
 ghost use Rattle.answer.specs.Answer.{accepted, verdict, rewritten};
 ghost use Rattle.answer.specs.Demand.{provided};
-ghost use Rattle.answer.specs.Said.{verdict_said};
+ghost use Rattle.answer.specs.Said.{said};
 ghost use Rattle.madi_code.specs.Frame.{numbered};
 ghost use Rattle.madi_code.specs.Groups.{command_codes};
-ghost use Rattle.madi_code.specs.Inner.{group_table};
 ghost use Rattle.madi_write.specs.Writer.{needed, frame_octets, is_list, channel_word_demands, write_demands, frame_written};
-ghost use Rattle.madi_write.specs.Inner.{sent_word, commands_number, Levels, Stored, Laid, LevelAt, Passed, Ended, Sound};
+ghost use Rattle.madi_write.specs.Inner.{commands_number, Ready, Levels, Stored, Laid, frame_length, active, whole, LevelIn, PassedIn, EndedIn, Sound};
 
-use answer::Verdict;
+use answer::Refusal;
 
-// The word of channel b as it is sent: the given ones are active, and bit 0 is set on channel 0; the others are all
-// zero.
-fn sent_word(words: &[u32], b: usize) -> u32
-    requires { (k : ℕ) → get_or words.now k 0 % 4 ≡ 0 }
-    ensures { result ≡ sent_word words.now b }
+// The word of active channel b as it is sent: bit 1 is set, and bit 0 on channel 0.
+fn sent_word(w: u32, b: usize) -> u32
+    requires { w % 4 ≡ 0 }
+    ensures { result ≡ w + pick (eqb b 0) 3 2 }
 {
-    if b < words.len() {
-        if b == 0 {
-            return words[b] + 3;
-        }
-        return words[b] + 2;
-    }
-    0
+    if b == 0 { w + 3 } else { w + 2 }
 }
 
-// The k commands of a list from the i-th on, at most four, the earliest highest. The table is that of commands.
-fn commands_from(codes: &[u16; 16], commands: &[u8], i: usize, k: usize) -> u64
-    requires { (codes.now ≡ command_codes) × (k ≤ 4) × (i + k ≤ length commands.now) × (numbered commands.now ≡ true) }
-    ensures { result ≡ commands_number commands.now i k }
+// Commands of a list, at most four, the earliest highest. The table is that of commands.
+fn commands_number(codes: &[u16; 16], commands: &[u8]) -> u64
+    requires { (codes.now ≡ command_codes) × (length commands.now ≤ 4) × (numbered commands.now ≡ true) }
+    ensures { result ≡ commands_number commands.now 0 (length commands.now) }
 {
     let mut x: u64 = 0;
-    let mut j: usize = 0;
-    while j < k {
-        x = x * 0x400 + codes[commands[i + j] as usize] as u64;
-        j += 1;
+    for &c in commands {
+        x = x * 0x400 + u64::from(codes[usize::from(c)]);
     }
     x
 }
@@ -59,10 +50,8 @@ fn store(line: &mut [u8], j: usize, y: u64, n: usize)
     requires { (n ≤ 5) × (j + n ≤ length line.old) }
     ensures { Stored j y n line.old line.new }
 {
-    let mut i = 0;
-    while i < n {
+    for i in 0..n {
         line[j + i] = ((y >> (32 - 8 * i)) % 256) as u8;
-        i += 1;
     }
 }
 
@@ -90,76 +79,89 @@ fn lay(line: &mut [u8], b: usize, last: u64, x: u64) -> u64
     y % 2
 }
 
-// The active channels, into the front of line after a level; gives the level that they leave.
-fn lay_active(table: &[u8; 16], words: &[u32], level: u64, line: &mut [u8]) -> u64
-    requires { (table.now ≡ group_table) × (level ≤ 1) × (length words.now ≤ 64) × ((k : ℕ) → get_or words.now k 0 % 4 ≡ 0) × (5 * length words.now ≤ length line.old) }
-    ensures { (channels : ℕ) (commands : List ℕ) → length words.now ≤ channels → Passed channels words.now commands level line.old 0 line.new result (length words.now) }
-{
-    let mut last = level;
-    let mut b: usize = 0;
-    while b < words.len() {
-        let x = madi_code::bits_by(table, sent_word(words, b));
-        last = lay(line, b, last, x);
-        b += 1;
+// A frame that passed the checks, and the tables that its bits are looked up in.
+#[derive(Clone, Copy)]
+struct Frame<'a> {
+    channels: usize,
+    words: &'a [u32],
+    commands: &'a [u8],
+    groups: [u8; 16],
+    codes: [u16; 16],
+}
+
+impl Frame<'_> {
+    // The active channels, into the front of line after a level; gives the level that they leave.
+    fn lay_active(&self, level: u32, line: &mut [u8]) -> u64
+        requires ready { Ready self.now }
+        requires room { (level ≤ 1) × (5 * active self.now ≤ length line.old) }
+        ensures { PassedIn self.now level line.old 0 line.new result (active self.now) }
+    {
+        let mut last = u64::from(level);
+        for (b, &w) in self.words.iter().enumerate() {
+            let x = madi_code::bits_by(&self.groups, sent_word(w, b));
+            last = lay(line, b, last, x);
+        }
+        last
     }
-    last
-}
 
-// The inactive channels, behind the active ones. Each leaves the level as it was, so all of them are the same five octets.
-fn lay_inactive(table: &[u8; 16], words: &[u32], channels: usize, last: u64, line: &mut [u8])
-    requires { (table.now ≡ group_table) × (last < 2) × (length words.now ≤ channels) × (channels ≤ 64) × (5 * channels ≤ length line.old) }
-    ensures { (commands : List ℕ) (level : ℕ) → LevelAt channels words.now commands level last (length words.now) → Passed channels words.now commands level line.old (length words.now) line.new last channels }
-{
-    let idle = madi_code::bits_by(table, 0);
-    let y = levels_after(last * 0x100_0000_0000 + idle);
-    let mut b = words.len();
-    while b < channels {
-        store_five(line, 5 * b, y);
-        b += 1;
+    // The inactive channels, behind the active ones. Each leaves the level as it was, so all of them are the same five
+    // octets.
+    fn lay_inactive(&self, last: u64, line: &mut [u8])
+        requires ready { Ready self.now }
+        requires room { (last < 2) × (5 * self.now.channels ≤ length line.old) }
+        ensures { (level : ℕ) → LevelIn self.now level last (active self.now) → PassedIn self.now level line.old (active self.now) line.new last self.now.channels }
+    {
+        let idle = madi_code::bits_by(&self.groups, 0);
+        let y = levels_after(last * 0x100_0000_0000 + idle);
+        for b in self.words.len()..self.channels {
+            store_five(line, 5 * b, y);
+        }
     }
-}
 
-// The commands by fours, behind the channels; gives the level that they leave. The table is that of commands.
-fn lay_fours(codes: &[u16; 16], commands: &[u8], channels: usize, last: u64, line: &mut [u8]) -> u64
-    requires { (codes.now ≡ command_codes) × (last < 2) × (channels ≤ 64) × (length commands.now ≤ 255) × (numbered commands.now ≡ true) × (5 * (channels + length commands.now / 4) ≤ length line.old) }
-    ensures { (words : List ℕ) (level : ℕ) → length words ≤ channels → LevelAt channels words commands.now level last channels → Passed channels words commands.now level line.old channels line.new result (channels + length commands.now / 4) }
-{
-    let whole = channels + commands.len() / 4;
-    let mut end = last;
-    let mut b = channels;
-    while b < whole {
-        let x = commands_from(codes, commands, 4 * (b - channels), 4);
-        end = lay(line, b, end, x);
-        b += 1;
+    // The commands by fours, behind the channels; gives the level that they leave.
+    fn lay_fours(&self, last: u64, line: &mut [u8]) -> u64
+        requires ready { Ready self.now }
+        requires room { (last < 2) × (5 * (whole self.now) ≤ length line.old) }
+        ensures { (level : ℕ) → LevelIn self.now level last self.now.channels → PassedIn self.now level line.old self.now.channels line.new result (whole self.now) }
+    {
+        let mut end = last;
+        for i in 0..self.commands.len() / 4 {
+            let x = commands_number(&self.codes, &self.commands[4 * i..4 * i + 4]);
+            end = lay(line, self.channels + i, end, x);
+        }
+        end
     }
-    end
-}
 
-// The commands that are left, behind the fours, with zeros behind them up to an octet's end.
-fn lay_left(codes: &[u16; 16], commands: &[u8], channels: usize, last: u64, line: &mut [u8])
-    requires { (codes.now ≡ command_codes) × (last < 2) × (channels ≤ 64) × (length commands.now ≤ 255) × (numbered commands.now ≡ true) × (needed channels (length commands.now) ≤ length line.old) }
-    ensures { (words : List ℕ) (level : ℕ) → length words ≤ channels → LevelAt channels words commands.now level last (channels + length commands.now / 4) → Ended channels words commands.now level line.old line.new }
-{
-    let fours = commands.len() / 4;
-    let whole = channels + fours;
-    let k = commands.len() % 4;
-    let x = commands_from(codes, commands, 4 * fours, k);
-    let y = levels_after((last << (10 * k)) + x);
-    store(line, 5 * whole, y << (40 - 10 * k), (10 * k + 7) / 8);
-}
+    // The commands that are left, behind the fours, with zeros behind them up to an octet's end.
+    fn lay_left(&self, last: u64, line: &mut [u8])
+        requires ready { Ready self.now }
+        requires room { (last < 2) × (frame_length self.now ≤ length line.old) }
+        ensures { (level : ℕ) → LevelIn self.now level last (whole self.now) → EndedIn self.now level line.old line.new }
+    {
+        let fours = self.commands.len() / 4;
+        let k = self.commands.len() % 4;
+        let x = commands_number(&self.codes, &self.commands[4 * fours..]);
+        let y = levels_after((last << (10 * k)) + x);
+        store(
+            line,
+            5 * (self.channels + fours),
+            y << (40 - 10 * k),
+            (10 * k).div_ceil(8),
+        );
+    }
 
-// The octets of a frame, into the front of line: blocks of five octets, the active channels, the inactive ones and then
-// commands by fours; then the commands that are left.
-fn fill(channels: usize, words: &[u32], commands: &[u8], level: u32, line: &mut [u8])
-    requires { (level ≤ 1) × (channels ≤ 64) × (length words.now ≤ channels) × (length commands.now ≤ 255) × (numbered commands.now ≡ true) × ((k : ℕ) → get_or words.now k 0 % 4 ≡ 0) × (needed channels (length commands.now) ≤ length line.old) }
-    ensures { line.new ≡ frame_octets channels words.now commands.now level ++ drop (needed channels (length commands.now)) line.old }
-{
-    let table = madi_code::groups();
-    let codes = madi_code::command_codes();
-    let last = lay_active(&table, words, level as u64, line);
-    lay_inactive(&table, words, channels, last, line);
-    let end = lay_fours(&codes, commands, channels, last, line);
-    lay_left(&codes, commands, channels, end, line);
+    // The octets of the frame, into the front of line: blocks of five octets, the active channels, the inactive ones and
+    // then commands by fours; then the commands that are left.
+    fn fill(&self, level: u32, line: &mut [u8])
+        requires ready { Ready self.now }
+        requires room { (level ≤ 1) × (frame_length self.now ≤ length line.old) }
+        ensures { line.new ≡ frame_octets self.now.channels self.now.words.now self.now.commands.now level ++ drop (frame_length self.now) line.old }
+    {
+        let last = self.lay_active(level, line);
+        self.lay_inactive(last, line);
+        let end = self.lay_fours(last, line);
+        self.lay_left(end, line);
+    }
 }
 
 // Whether every word passes both checks.
@@ -167,94 +169,56 @@ fn are_sound(words: &[u32]) -> bool
     requires { length words.now ≤ 64 }
     ensures { result ≡ true → Sound words.now }
 {
-    let mut i = 0;
-    while i < words.len() {
-        let w = words[i];
-        if subframe::parity(w) + w % 4 != 0 {
-            return false;
-        }
-        i += 1;
-    }
-    true
+    words.iter().all(|&w| subframe::parity(w) | w % 4 == 0)
 }
 
 // The first word of odd parity, then the first with bit 0 or 1 set.
-fn find_fault(words: &[u32]) -> Verdict
+fn find_fault(words: &[u32]) -> Result<(), Refusal>
     requires { length words.now ≤ 64 }
-    ensures { verdict_said result ≡ provided (channel_word_demands words.now) (accepted tt) }
+    ensures { said result ≡ provided (channel_word_demands words.now) (accepted tt) }
 {
-    let mut i = 0;
-    while i < words.len() {
-        if subframe::parity(words[i]) == 0 {
-            i += 1;
-        } else {
-            return Verdict::Refused {
-                number: 9,
-                place: i as u32,
-            };
-        }
+    if let Some(i) = words.iter().position(|&w| subframe::parity(w) != 0) {
+        return Err(Refusal::Parity(i as u32));
     }
-    let mut j = 0;
-    while j < words.len() {
-        if words[j] % 4 == 0 {
-            j += 1;
-        } else {
-            return Verdict::Refused {
-                number: 12,
-                place: j as u32,
-            };
-        }
+    if let Some(i) = words.iter().position(|w| w % 4 != 0) {
+        return Err(Refusal::State(i as u32));
     }
-    Verdict::Accepted
+    Ok(())
 }
 
 // The same, at one stride where there is none.
-fn check_words(words: &[u32]) -> Verdict
+fn check_words(words: &[u32]) -> Result<(), Refusal>
     requires { length words.now ≤ 64 }
-    ensures { verdict_said result ≡ provided (channel_word_demands words.now) (accepted tt) }
+    ensures { said result ≡ provided (channel_word_demands words.now) (accepted tt) }
 {
     if are_sound(words) {
-        return Verdict::Accepted;
+        Ok(())
+    } else {
+        find_fault(words)
     }
-    find_fault(words)
 }
 
 // Whether a list may have so many commands.
 fn count_right(n: usize) -> bool
     ensures { result ≡ (leb 1 n && leb n 255) }
 {
-    if n < 1 {
-        return false;
-    }
-    n <= 255
+    (1..=255).contains(&n)
 }
 
 // Whether no command is above 15. What is 1 in any is gathered, with no branch on a command.
 fn are_numbered(commands: &[u8]) -> bool
     ensures { result ≡ numbered commands.now }
 {
-    let mut any: u8 = 0;
-    let mut i = 0;
-    while i < commands.len() {
-        any = any | commands[i];
-        i += 1;
-    }
-    if 15 < any {
-        return false;
-    }
-    true
+    commands.iter().fold(0, |any, &c| any | c) <= 15
 }
 
 // Whether these are 1 to 255 commands, none above 15, and at least one of them 0.
 fn is_list(commands: &[u8]) -> bool
     ensures { result ≡ is_list commands.now }
 {
-    if count_right(commands.len()) {
-        if are_numbered(commands) {
-            return madi_code::has_sync(commands, commands.len());
-        }
-    }
-    false
+    count_right(commands.len())
+        && are_numbered(commands)
+        && madi_code::has_sync(commands, commands.len())
 }
 
 // The octets needed for so many commands.
@@ -262,34 +226,35 @@ fn octets_needed(channels: u32, n: usize) -> usize
     requires { (channels ≤ 64) × (n ≤ 255) }
     ensures { result ≡ needed channels n }
 {
-    (40 * channels as usize + 10 * n + 7) / 8
+    (40 * channels as usize + 10 * n).div_ceil(8)
 }
 
 // Whether all demands are met, before anything is written.
-fn check_frame(channels: u32, words: &[u32], commands: &[u8], level: u32, room: usize) -> Verdict
-    ensures { verdict_said result ≡ provided (write_demands channels words.now commands.now level room) (accepted tt) }
+fn check_frame(
+    channels: u32,
+    words: &[u32],
+    commands: &[u8],
+    level: u32,
+    room: usize,
+) -> Result<(), Refusal>
+    ensures { said result ≡ provided (write_demands channels words.now commands.now level room) (accepted tt) }
 {
-    if madi_code::is_counted(channels) {
-        if 1 <= words.len() {
-            if words.len() <= channels as usize {
-                if is_list(commands) {
-                    if level <= 1 {
-                        if octets_needed(channels, commands.len()) <= room {
-                            return check_words(words);
-                        }
-                        return Verdict::Refused {
-                            number: 1,
-                            place: 0,
-                        };
-                    }
-                }
-            }
-        }
+    if !madi_code::is_counted(channels) {
+        return Err(Refusal::Range);
     }
-    Verdict::Refused {
-        number: 2,
-        place: 0,
+    if !(1..=channels as usize).contains(&words.len()) {
+        return Err(Refusal::Range);
     }
+    if !is_list(commands) {
+        return Err(Refusal::Range);
+    }
+    if level > 1 {
+        return Err(Refusal::Range);
+    }
+    if room < octets_needed(channels, commands.len()) {
+        return Err(Refusal::Length);
+    }
+    check_words(words)
 }
 
 // Writes a frame: 56 or 64 channels, the words of those that are active, 1 to 255 commands after them, the level
@@ -300,16 +265,18 @@ pub fn write_frame(
     commands: &[u8],
     level: u32,
     line: &mut [u8],
-) -> Verdict
-    ensures result_value { verdict_said result ≡ verdict (frame_written channels words.now commands.now level (length line.old)) }
+) -> Result<(), Refusal>
+    ensures result_value { said result ≡ verdict (frame_written channels words.now commands.now level (length line.old)) }
     ensures line_after { line.new ≡ rewritten (frame_written channels words.now commands.now level (length line.old)) line.old }
 {
-    let answer = check_frame(channels, words, commands, level, line.len());
-    match answer {
-        Verdict::Accepted => {
-            fill(channels as usize, words, commands, level, line);
-            Verdict::Accepted
-        }
-        Verdict::Refused { number, place } => Verdict::Refused { number, place },
-    }
+    check_frame(channels, words, commands, level, line.len())?;
+    let frame = Frame {
+        channels: channels as usize,
+        words,
+        commands,
+        groups: madi_code::groups(),
+        codes: madi_code::command_codes(),
+    };
+    frame.fill(level, line);
+    Ok(())
 }

@@ -34,6 +34,7 @@ fn read(mut input: Stdin, buf: &mut [u8]) -> usize
     ensures { IsPrefixLen result buf.new }
 {
     let mut done = 0;
+    // a read may give fewer octets than were asked for, so this counts what came and not turns
     while done < buf.len() {
         match input.read(&mut buf[done..]) {
             Ok(more) => {
@@ -56,9 +57,7 @@ fn read(mut input: Stdin, buf: &mut [u8]) -> usize
 fn run(input: Stdin, figures: &mut [u32; 110]) -> Next {
     let mut head = [0u8; 4];
     let mut body = no_octets();
-    let mut left: u64 = 18_446_744_073_709_551_615;
-    while 0 < left {
-        left -= 1;
+    for _record in 0..u64::MAX {
         let got = read(input, &mut head);
         let size = records::body_size(&head[..got]);
         let had = read(input, &mut body[..size]);

@@ -10,28 +10,13 @@ use Rattle.hd_read.specs.Read.{read_answer as packet_answer, fields_read}
 use Rattle.madi_read.specs.Reader.{frame_read, counts_of}
 use Rattle.hd_control.specs.declared.Control.{Control}
 use Rattle.hd_control.specs.Read.{read_answer as control_answer}
-use Rattle.records.specs.declared.Outcome.{Outcome}
-use Rattle.records.specs.declared.Outcome.TheVariants.{Aes3, Hd, Madi, Ctl, Refused}
-
--- what is answered of an accepted record: whether the CRCC of A and of B is right; group and DBN; active and command count; the group of a
--- control packet
-pub data Content : Type 0 where
-  aes3 : (a b : ℕ) → Content
-  hd : (group dbn : ℕ) → Content
-  madi : (active commands : ℕ) → Content
-  ctl : (group : ℕ) → Content
-
-abbrev pub outcome_said : Outcome → Answer Content
-outcome_said (Aes3 a b) = accepted (Content.aes3 a b)
-outcome_said (Hd group dbn) = accepted (Content.hd group dbn)
-outcome_said (Madi active commands) = accepted (Content.madi active commands)
-outcome_said (Ctl group) = accepted (Content.ctl group)
-outcome_said (Refused number place) = refused number place
+use Rattle.records.specs.declared.Content.{Content}
+use Rattle.records.specs.declared.Content.TheVariants.{Aes3, Hd, Madi, Ctl}
 
 -- ---- kind 1: an AES3 block
 
 abbrev pub block_content : ℕ × ℕ → Content
-block_content crccs = Content.aes3 crccs.0 crccs.1
+block_content crccs = Aes3 crccs.0 crccs.1
 
 unfoldable pub block_record : List ℕ → Answer Content
 block_record payload = mapped block_content (mapped crccs (block_answer payload 384 192))
@@ -39,7 +24,7 @@ block_record payload = mapped block_content (mapped crccs (block_answer payload 
 -- ---- kind 2: a packet, 62 octets, each word big-endian
 
 abbrev pub packet_content : Fields → Content
-packet_content f = Content.hd f.group f.dbn
+packet_content f = Hd f.group f.dbn
 
 -- words of two octets, the higher first
 unfoldable pub big_endian : List ℕ → List ℕ
@@ -60,7 +45,7 @@ packet_record payload = provided (packet_demands payload) (mapped packet_content
 -- ---- kind 3: channel count, level before, bit length in two octets, line
 
 abbrev pub frame_content : ℕ × ℕ → Content
-frame_content counts = Content.madi counts.0 counts.1
+frame_content counts = Madi counts.0 counts.1
 
 abbrev pub frame_demands : List ℕ → List Demand
 frame_demands payload = asks 1 0 (leb 4 (length payload)) ∷ []
@@ -74,7 +59,7 @@ frame_record payload =
 -- ---- kind 4: a control packet, 36 octets, likewise
 
 abbrev pub control_content : Control → Content
-control_content c = Content.ctl c.group
+control_content c = Ctl c.group
 
 abbrev pub control_demands : List ℕ → List Demand
 control_demands payload = asks 1 0 (eqb (length payload) 36) ∷ []

@@ -15,13 +15,20 @@ use Rattle.answer.proofs.Residues.{shows-refusal, shows-acceptance}
 use Rattle.records.specs.Head.{size_of}
 use Rattle.replay.specs.File.{records_of, stop_at, file_stop}
 use Rattle.replay.specs.Sheet.{marks_sound}
-use Rattle.replay.specs.Replay.{all_counted, taken_of, replay_figures, replay_end, stop_number, replay_demands, replay_answer, stop_told, figures_told, sheet_after, taken_told, figures_handed, told_beside, replay_told}
+use Rattle.replay.specs.Replay.{all_counted, taken_of, replay_figures, replay_end, stop_number, replay_demands, replay_answer, stop_told, figures_told, sheet_after, taken_told, figures_handed, replay_told}
 use Rattle.replay.specs.Inner.{full}
 use Rattle.replay.specs.declared.Next.{Next}
-use Rattle.replay.specs.declared.Next.TheVariants.{Full}
+use Rattle.replay.specs.declared.Next.TheVariants.{Going, End, Long, Cut, Full}
 use Rattle.replay.proofs.Lengths.{length-figures}
 
 -- ---- full, or the stop of the file
+
+pub not-full : (next : Next) → (next ≡ Full → ⊥) → full next ≡ false
+not-full Going h = refl
+not-full End h = refl
+not-full Long h = refl
+not-full Cut h = refl
+not-full Full h = absurd (h refl)
 
 stop-not-full : (left : List ℕ) → full (stop_at left) ≡ false
 unfolding stop_at
@@ -99,13 +106,10 @@ module _ (octets sheet : List ℕ) where
           (length-figures octets sheet) (l ∙ f) in
           (ap accepted e ∙ s.0, (beside, s.1))
 
--- the figures have room in the sheet
-pub figures-many : (octets sheet : List ℕ) {figures : List ℕ} → length sheet ≡ 110 → figures ≡ replay_figures octets sheet → 110 ≡ length figures
-figures-many octets sheet long f = sym (ap length f ∙ length-figures octets sheet ∙ long)
-
 -- the whole answer from its parts
 pub shows : (octets sheet : List ℕ) {a : Answer ℕ} {taken : ℕ} {figures left : List ℕ}
     → (a ≡ mapped stop_told (replay_answer octets sheet)) × (((taken ≡ taken_told octets sheet) × (figures ≡ figures_handed octets sheet))
     × (left ≡ sheet_after octets sheet))
-    → (told_beside a taken figures ≡ replay_told octets sheet) × (left ≡ sheet_after octets sheet)
+    → ((a, taken, figures) ≡ replay_told octets sheet) × (left ≡ sheet_after octets sheet)
+unfolding replay_told
 shows octets sheet p = (rw (p.0, p.1.0.0, p.1.0.1) refl, p.1.1)

@@ -10,3 +10,4 @@ pub mod Groups
 pub mod Cuts
 pub mod Counting
 pub mod Kept
+pub mod Said

@@ -194,12 +194,20 @@ module _ (input sheet : List ℕ) {got size had : ℕ} {next : Next} {after : Li
       (λ f. stops_as (whole-next input sheet g s h t ∙ rw f refl) refl (full-comes input sheet t f)))
       (λ f. stops_as (stop-next input sheet g s h f) (stop-ends input) (none-comes input sheet f))
 
-pub goes-is : (x : Next) → goes x ≡ true → x ≡ Going
+goes-is : (x : Next) → goes x ≡ true → x ≡ Going
 goes-is Going e = refl
 goes-is End e = no-yes false refl e
 goes-is Long e = no-yes false refl e
 goes-is Cut e = no-yes false refl e
 goes-is Full e = no-yes false refl e
+
+-- any other than `Going` ends it
+pub not-going : (next : Next) → (next ≡ Going → ⊥) → goes next ≡ false
+not-going Going h = absurd (h refl)
+not-going End h = refl
+not-going Long h = refl
+not-going Cut h = refl
+not-going Full h = refl
 
 -- ---- the whole, as a program goes that reads a stream
 

@@ -2,7 +2,8 @@
 -- for one record from the octets that there were of it. Assumes nothing.
 use Rattle.std.specs.Prelude.{ℕ, Bool, true, false, ◌&&◌, List, [], ◌∷◌, eqb, length, replicate}
 use Rattle.bits.specs.Pick.{pick}
-use Rattle.answer.specs.Answer.{Answer, Answer.accepted, told, mapped, after}
+use Rattle.answer.specs.Answer.{Answer, Answer.accepted, mapped, after}
+use Rattle.answer.specs.Said.{said}
 use Rattle.answer.specs.Demand.{Demand, Demand.asks, provided}
 use Rattle.records.specs.Head.{turn_of}
 use Rattle.records.specs.declared.Turn.{Turn}
@@ -11,6 +12,8 @@ use Rattle.replay.specs.File.{records_of, octets_in, file_stop}
 use Rattle.replay.specs.Packet.{entry_of}
 use Rattle.replay.specs.Sheet.{entry_fits, entered, marks_sound}
 use Rattle.replay.specs.declared.Replayed.{Replayed}
+use Rattle.replay.specs.declared.Stop.{Stop}
+use Rattle.replay.specs.declared.Stop.TheVariants.{End as StopEnd, Long as StopLong, Cut as StopCut}
 use Rattle.replay.specs.declared.Next.{Next}
 use Rattle.replay.specs.declared.Next.TheVariants.{Going, End, Long, Cut, Full}
 
@@ -89,14 +92,18 @@ taken_told octets sheet = pick (begun sheet) (taken_of octets sheet) 0
 unfoldable pub figures_handed : List ℕ → List ℕ → List ℕ
 figures_handed octets sheet = pick (begun sheet) (replay_figures octets sheet) (replicate 110 0)
 
--- the whole answer: number, place and stop, and what is beside them
-abbrev pub told_beside : Answer ℕ → ℕ → List ℕ → Replayed
-told_beside a taken figures =
-    let t = told 0 a in
-    record { number = t.0; place = t.1; taken = taken; stop = t.2; figures = figures }
+-- the whole answer, and what is beside it
+unfoldable pub replay_told : List ℕ → List ℕ → Answer ℕ × ℕ × List ℕ
+replay_told octets sheet = (mapped stop_told (replay_answer octets sheet), taken_told octets sheet, figures_handed octets sheet)
 
-abbrev pub replay_told : List ℕ → List ℕ → Replayed
-replay_told octets sheet = told_beside (mapped stop_told (replay_answer octets sheet)) (taken_told octets sheet) (figures_handed octets sheet)
+-- what the struct says
+abbrev pub stop_code : Stop → ℕ
+stop_code StopEnd = 0
+stop_code StopLong = 1
+stop_code StopCut = 2
+
+abbrev pub replay_said : Replayed → Answer ℕ × ℕ × List ℕ
+replay_said r = (mapped stop_code (said r.stop), r.taken, r.figures)
 
 -- ---- one record, from the octets that there were of its header and of its body
 

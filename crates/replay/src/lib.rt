@@ -2,13 +2,15 @@
 // stream go by the same step.
 #![tactic(auto)]
 
-ghost use Rattle.std.specs.Prelude.{◌≡◌, min, length, replicate};
-ghost use Rattle.replay.specs.Replay.{taken_of, replay_figures, replay_end, stop_number, replay_told, sheet_after, next_of, sheet_stepped};
-ghost use Rattle.replay.specs.Inner.{goes, full};
+ghost use Rattle.std.specs.Prelude.{◌≡◌, replicate};
+ghost use Rattle.answer.specs.Answer.{refused};
+ghost use Rattle.answer.specs.Said.{number_of, place_of};
+ghost use Rattle.replay.specs.Replay.{taken_of, replay_figures, replay_end, stop_number, stop_code, replay_said, replay_told, sheet_after, next_of, sheet_stepped};
 
 mod packet;
 mod sheet;
 
+use answer::Refusal;
 use records::Turn;
 
 // How many figures a sheet has.
@@ -16,7 +18,7 @@ const FIGURES: usize = 110;
 
 // What a record enters in the sheet: nothing; a data packet that was read, with the lanes that repair mended; a control
 // packet that was read; a packet that was refused. Group 0 is a packet without a group.
-#[derive(Clone, Copy)]
+#[derive(Clone, Copy, Debug, PartialEq, Eq)]
 pub enum Entry {
     Passed,
     Data { group: u32, lanes: u32, dbn: u32 },
@@ -26,7 +28,7 @@ pub enum Entry {
 
 // How a replay stands after a record: it goes on; the input ended; a length above 8,192; a cut record; a figure that would
 // pass 2^32 - 1.
-#[derive(Clone, Copy)]
+#[derive(Clone, Copy, Debug, PartialEq, Eq)]
 pub enum Next {
     Going,
     End,
@@ -43,10 +45,10 @@ pub fn step(sheet: &mut [u32; 110], head: &[u8], body: &[u8]) -> Next
     ensures sheet_after { sheet.new ≡ sheet_stepped sheet.old head.now body.now }
 {
     match records::turn_after(0, head, body.len()) {
-        Turn::End(n) => Next::End,
-        Turn::Cut(n) => Next::Cut,
-        Turn::Long(n) => Next::Long,
-        Turn::Record(n) => {
+        Turn::End(_) => Next::End,
+        Turn::Cut(_) => Next::Cut,
+        Turn::Long(_) => Next::Long,
+        Turn::Record(_) => {
             if sheet::enter(sheet, packet::entry_of(body)) {
                 return Next::Going;
             }
@@ -56,40 +58,10 @@ pub fn step(sheet: &mut [u32; 110], head: &[u8], body: &[u8]) -> Next
 }
 
 // The octets that were taken, and how it ended.
-#[derive(Clone, Copy)]
+#[derive(Clone, Copy, Debug, PartialEq, Eq)]
 pub struct Ran {
     pub taken: usize,
     pub next: Next,
-}
-
-fn is_going(next: Next) -> bool
-    ensures { result ≡ goes next }
-{
-    match next {
-        Next::Going => true,
-        Next::End => false,
-        Next::Long => false,
-        Next::Cut => false,
-        Next::Full => false,
-    }
-}
-
-fn is_full(next: Next) -> bool
-    ensures { result ≡ full next }
-{
-    match next {
-        Next::Going => false,
-        Next::End => false,
-        Next::Long => false,
-        Next::Cut => false,
-        Next::Full => true,
-    }
-}
-
-fn shorter(a: usize, b: usize) -> usize
-    ensures { result ≡ min a b }
-{
-    if a <= b { a } else { b }
 }
 
 // Replays octets into figures.
@@ -98,105 +70,87 @@ fn run(octets: &[u8], figures: &mut [u32; 110]) -> Ran
     ensures figures_after { figures.new ≡ replay_figures octets.now figures.old }
 {
     let mut at: usize = 0;
+    // no index: each record says how many octets it takes, and where there is none the end
     loop {
         let left = &octets[at..];
-        let got = shorter(4, left.len());
+        let got = usize::min(4, left.len());
         let size = records::body_size(&left[..got]);
-        let had = shorter(size, left.len() - got);
+        let had = usize::min(size, left.len() - got);
         let end = got + had;
         let next = step(figures, &left[..got], &left[got..end]);
-        if is_going(next) {
-            at += end;
-        } else {
+        let Next::Going = next else {
             return Ran { taken: at, next };
-        }
+        };
+        at += end;
     }
 }
 
 // ---- the entry
 
-// What a replay answers: number and place, the stop; the octets that were taken and the figures, also where it is 23.
-#[derive(Clone, Copy)]
+// Where a replay that is not refused stopped: at the end of the file, before a length above 8,192, at a cut record.
+#[derive(Clone, Copy, Debug, PartialEq, Eq)]
+pub enum Stop {
+    End,
+    Long,
+    Cut,
+}
+
+// What a replay answers: where it stopped, or a refusal; the octets that were taken and the figures, also where it is 23.
+#[derive(Clone, Copy, Debug, PartialEq, Eq)]
 pub struct Replayed {
-    pub number: u32,
-    pub place: u32,
+    pub stop: Result<Stop, Refusal>,
     pub taken: u64,
-    pub stop: u32,
     pub figures: [u32; 110],
 }
 
-fn no_figures() -> [u32; 110]
-    ensures { result ≡ replicate 110 0 }
+// The stop of a replay that had room for all records; one that could still go on has come to the end of its file.
+fn stop_of(next: Next) -> Stop
+    ensures { stop_code result ≡ stop_number next }
 {
-    [0; 110]
-}
-
-fn copy(from: &[u32], to: &mut [u32])
-    requires { length from.now ≡ length to.old }
-    ensures { to.new ≡ from.now }
-{
-    let mut i = 0;
-    while i < to.len() {
-        to[i] = from[i];
-        i += 1;
+    match next {
+        Next::Going | Next::End | Next::Full => Stop::End,
+        Next::Long => Stop::Long,
+        Next::Cut => Stop::Cut,
     }
 }
 
-fn stop_number(next: Next) -> u32
-    ensures { result ≡ stop_number next }
+// A replay that is refused before its first record.
+fn refused(refusal: Refusal) -> Replayed
+    ensures { replay_said result ≡ (refused (number_of refusal) (place_of refusal), 0, replicate 110 0) }
 {
-    match next {
-        Next::Going => 0,
-        Next::End => 0,
-        Next::Long => 1,
-        Next::Cut => 2,
-        Next::Full => 0,
+    Replayed {
+        stop: Err(refusal),
+        taken: 0,
+        figures: [0; 110],
     }
 }
 
 // Replays a file from a sheet into it: refusals 1, 2, 23.
 pub fn replay(octets: &[u8], sheet: &mut [u32]) -> Replayed
-    ensures value { result ≡ replay_told octets.now sheet.old }
+    ensures value { replay_said result ≡ replay_told octets.now sheet.old }
     ensures sheet_after { sheet.new ≡ sheet_after octets.now sheet.old }
 {
-    let mut figures = no_figures();
     if sheet.len() != FIGURES {
-        return Replayed {
-            number: 1,
-            place: 0,
-            taken: 0,
-            stop: 0,
-            figures,
-        };
+        return refused(Refusal::Length);
     }
-    if sheet::sheet_sound(sheet) {
-        copy(sheet, &mut figures);
-        let ran = run(octets, &mut figures);
-        let taken = ran.taken as u64;
-        let next = ran.next;
-        if is_full(next) {
-            return Replayed {
-                number: 23,
-                place: 0,
-                taken,
-                stop: 0,
-                figures,
-            };
-        }
-        copy(&figures, sheet);
+    let mut figures = [0u32; 110];
+    figures.copy_from_slice(sheet);
+    if !sheet::sheet_sound(&figures) {
+        return refused(Refusal::Range);
+    }
+    let ran = run(octets, &mut figures);
+    let taken = ran.taken as u64;
+    if let Next::Full = ran.next {
         return Replayed {
-            number: 0,
-            place: 0,
+            stop: Err(Refusal::Count),
             taken,
-            stop: stop_number(next),
             figures,
         };
     }
+    sheet.copy_from_slice(&figures);
     Replayed {
-        number: 2,
-        place: 0,
-        taken: 0,
-        stop: 0,
+        stop: Ok(stop_of(ran.next)),
+        taken,
         figures,
     }
 }

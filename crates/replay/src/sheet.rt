@@ -6,21 +6,20 @@ ghost use Rattle.replay.specs.declared.Entry.TheVariants.{Refused};
 ghost use Rattle.replay.specs.Inner.{ProperEntry, changed, refused_changes, data_places, data_changes};
 
 use crate::Entry;
-use answer::NumberAnswer;
 
 // How many figures the line of a group has.
 const LINE: usize = 23;
 
 // The most that a figure can be.
-const MOST: u64 = 4_294_967_295;
+const MOST: u64 = u32::MAX as u64;
 
 // Whether a block number is the next after another, for a sender that counts.
 fn is_next(last: u32, dbn: u32) -> bool
     ensures { result ≡ follows (next_dbn last) dbn }
 {
     match anc::next_dbn(last) {
-        NumberAnswer::Refused { number, place } => false,
-        NumberAnswer::Number(next) => dbn == next,
+        Ok(next) => dbn == next,
+        Err(_) => false,
     }
 }
 
@@ -49,7 +48,7 @@ fn with_more(sheet: &[u32], k: usize, n: u32) -> u64
     requires { k < length sheet.now }
     ensures { result ≡ get_or sheet.now k 0 + n }
 {
-    sheet[k] as u64 + n as u64
+    u64::from(sheet[k]) + u64::from(n)
 }
 
 // A figure that is known to fit.
@@ -102,7 +101,7 @@ fn put_data(sheet: &mut [u32], start: usize, x: u64, y: u64, z: u64, dbn: u32)
     put(sheet, start + 1, y);
     put(sheet, start + 22, z);
     put(sheet, start + 20, 1);
-    put(sheet, start + 21, dbn as u64);
+    put(sheet, start + 21, u64::from(dbn));
 }
 
 // A data packet that was read, in the line that starts at a place.
@@ -129,8 +128,8 @@ fn enter_data(sheet: &mut [u32], start: usize, lanes: u32, dbn: u32) -> bool
 }
 
 // A packet that was refused, of a group or, for 0, of none.
-fn enter_unread(sheet: &mut [u32], group: u32, lanes: u32, number: u32) -> bool
-    requires { (length sheet.old ≡ 110) × (group ≤ 4) × (number < 18) }
+fn enter_unread(sheet: &mut [u32; 110], group: u32, lanes: u32, number: u32) -> bool
+    requires { (group ≤ 4) × (number < 18) }
     ensures value { result ≡ all_fit (entry_changes (Refused group lanes number) sheet.old) }
     ensures sheet_after { sheet.new ≡ changed (entry_changes (Refused group lanes number) sheet.old) sheet.old }
 {
@@ -143,8 +142,8 @@ fn enter_unread(sheet: &mut [u32], group: u32, lanes: u32, number: u32) -> bool
 }
 
 // Enters what has room, and says whether it has; else the sheet stays.
-pub(crate) fn enter(sheet: &mut [u32], e: Entry) -> bool
-    requires { (length sheet.old ≡ 110) × ProperEntry e }
+pub(crate) fn enter(sheet: &mut [u32; 110], e: Entry) -> bool
+    requires { ProperEntry e }
     ensures value { result ≡ entry_fits e sheet.old }
     ensures sheet_after { sheet.new ≡ changed (entry_changes e sheet.old) sheet.old }
 {
@@ -167,8 +166,8 @@ pub(crate) fn enter(sheet: &mut [u32], e: Entry) -> bool
 
 // ---- a sheet that is accepted
 
-fn line_sound(sheet: &[u32], group: usize) -> bool
-    requires { (length sheet.now ≡ 110) × (1 ≤ group) × (group ≤ 4) }
+fn line_sound(sheet: &[u32; 110], group: usize) -> bool
+    requires { (1 ≤ group) × (group ≤ 4) }
     ensures { result ≡ group_sound sheet.now group }
 {
     let mark = sheet[LINE * (group - 1) + 20];
@@ -182,16 +181,8 @@ fn line_sound(sheet: &[u32], group: usize) -> bool
     false
 }
 
-pub(crate) fn sheet_sound(sheet: &[u32]) -> bool
-    requires { length sheet.now ≡ 110 }
+pub(crate) fn sheet_sound(sheet: &[u32; 110]) -> bool
     ensures { result ≡ marks_sound sheet.now }
 {
-    if line_sound(sheet, 1) {
-        if line_sound(sheet, 2) {
-            if line_sound(sheet, 3) {
-                return line_sound(sheet, 4);
-            }
-        }
-    }
-    false
+    (1..5).all(|group| line_sound(sheet, group))
 }

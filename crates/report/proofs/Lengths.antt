@@ -10,7 +10,8 @@ use lib.Seq.{length-take-le, drop_at}
 use Rattle.bits.specs.Pick.{pick}
 use Rattle.bits.proofs.Tests.{pick-cases}
 use Rattle.answer.specs.Answer.{Answer, Answer.accepted, Answer.refused}
-use Rattle.records.specs.Record.{Content, Content.aes3, Content.hd, Content.madi, Content.ctl}
+use Rattle.records.specs.declared.Content.{Content}
+use Rattle.records.specs.declared.Content.TheVariants.{Aes3, Hd, Madi, Ctl}
 use Rattle.report.specs.Text.{heading, aes3_ok, hd_ok, madi_ok, ctl_ok, refused_word, records_word, digits, decimal, single_text, pair_text, answer_text, line_of, count_line}
 use Rattle.report.specs.Placed.{start_in, start_of, with_text}
 
@@ -37,10 +38,10 @@ pair-most word a b = simp length-append (omega (arith, decimal-most a, decimal-m
 
 answer-most : (a : Answer Content) → length (answer_text a) ≤ 51
 unfolding answer_text
-answer-most (accepted (aes3 a b)) = omega (arith, pair-most aes3_ok a b)
-answer-most (accepted (hd group dbn)) = omega (arith, pair-most hd_ok group dbn)
-answer-most (accepted (madi active commands)) = omega (arith, pair-most madi_ok active commands)
-answer-most (accepted (ctl group)) = omega (arith, single-most ctl_ok group)
+answer-most (accepted (Aes3 a b)) = omega (arith, pair-most aes3_ok a b)
+answer-most (accepted (Hd group dbn)) = omega (arith, pair-most hd_ok group dbn)
+answer-most (accepted (Madi active commands)) = omega (arith, pair-most madi_ok active commands)
+answer-most (accepted (Ctl group)) = omega (arith, single-most ctl_ok group)
 answer-most (refused number place) = omega (arith, pair-most refused_word number place)
 
 pub line-most : (n : ℕ) (a : Answer Content) → length (line_of n a) ≤ 71

@@ -2,11 +2,11 @@
 use mathlib.Core.Path.{◌≡◌, refl, sym, ap, ◌∙◌}
 use mathlib.Core.List.{List, [], ◌∷◌, ◌++◌, append_assoc, append-nil}
 use Prim.Native.Nat.{ℕ, suc, ◌+◌, ◌-◌, ◌/◌, ◌%◌, ◌≤◌, ◌<◌}
-use native.Mathlib.Numerals.{add-one}
 use native.Mathlib.Omega.{arith}
 use borrow.Author.Tests.{eq-eqb, ne_eqb}
-use lib.ListN.{length, get_or, take, drop, set, length-drop, length-append, length-set, take-append-drop, drop_of_length-le}
-use lib.Seq.{take-take, take-length, take-set-le, drop-cons, lt-length-set, get_or-set_same, drop-set-lt, paste, paste-suc}
+use lib.ListN.{length, take, drop, set, length-drop, length-append, length-set, take-append-drop, drop_of_length-le}
+use borrow.Rule.Slice.PartMut.{put_mid, post_of}
+use lib.Seq.{take-take, take-set-le, drop-cons, lt-length-set, get_or-set_same, drop-set-lt, drop-drop}
 use lib.Seq.{length-take-le, take_at, drop_at}
 use Rattle.report.specs.Text.{digits, decimal}
 use Rattle.report.specs.Placed.{start_in, with_text}
@@ -80,20 +80,15 @@ put-set old end a h e =
     let l : end - 1 ≤ end - 1 = omega arith in
     put_of (length-set old (end - 1) a) (omega arith) e (take-set-le (end - 1) old (end - 1) a l) (end_before old end a h e)
 
-pub paste_more : (old word : List ℕ) (from i : ℕ) {new : List ℕ} → from + i < length old → i < length word → new ≡ paste old from word i
-    → set new (from + i) (get_or word i 0) ≡ paste old from word (i + 1)
-paste_more old word from i h l p =
-    ap (λ (d : List ℕ). set d (from + i) (get_or word i 0)) p ∙ paste-suc old from word i 0 h l
-    ∙ ap (paste old from word) (sym (add-one i))
-
-pub put-paste : (old word : List ℕ) (end i : ℕ) {new : List ℕ} → length word ≤ end → end ≤ length old → i ≡ length word
-    → new ≡ paste old (end - length word) word i → Put old end word (end - length word) new
-put-paste old word end i {new = new} h e j p =
+-- a word copied into the octets before `end`
+pub put-copy : (old word : List ℕ) (end : ℕ) {part : List ℕ} → length word ≤ end → end ≤ length old → part ≡ word
+    → Put old end word (end - length word) (put_mid (end - length word) (end - (end - length word)) old part)
+put-copy old word end {part} h e p =
     let from = end - length word in
-    let all : take i word ≡ word = ap (λ (k : ℕ). take k word) j ∙ take-length word in
     let l : length (take from old) ≡ from = length-take-le from old (omega arith) in
-    let m : from + i ≡ end = omega arith in
-    let q : new ≡ take from old ++ (word ++ drop end old) = p ∙ rw (all, m) (append_assoc (take from old) word (drop end old)) in
+    let m : from + (end - from) ≡ end = omega arith in
+    let rest : post_of from (end - from) old ≡ drop end old = drop-drop (end - from) from old ∙ ap (λ (k : ℕ). drop k old) m in
+    let q : put_mid from (end - from) old part ≡ take from old ++ (word ++ drop end old) = rw (p, rest) refl in
     record {
       ends = omega arith;
       before = ap (take from) q ∙ take_at (take from old) (word ++ drop end old) from l;

@@ -13,7 +13,8 @@ use lib.ListN.{length, take, drop, length-drop}
 use Rattle.bits.proofs.Tests.{pick-cases, no-yes}
 use Rattle.answer.specs.Answer.{Answer, Answer.refused}
 use Rattle.records.specs.Head.{size_of}
-use Rattle.records.specs.Record.{Content, record_answer}
+use Rattle.records.specs.declared.Content.{Content}
+use Rattle.records.specs.Record.{record_answer}
 use Rattle.records.specs.declared.Turn.{Turn}
 use Rattle.records.proofs.HeadLaws.{turn-cases}
 use Rattle.report.specs.Text.{heading, cut_line, line_of, count_line}

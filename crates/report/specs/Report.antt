@@ -4,7 +4,8 @@ use Rattle.std.specs.Prelude.{ℕ, zero, suc, ◌+◌, ◌-◌, Bool, true, fals
 use Rattle.bits.specs.Pick.{pick}
 use Rattle.answer.specs.Answer.{Answer, Answer.refused}
 use Rattle.records.specs.Head.{longest, size_of, turn_of}
-use Rattle.records.specs.Record.{Content, record_answer}
+use Rattle.records.specs.declared.Content.{Content}
+use Rattle.records.specs.Record.{record_answer}
 use Rattle.records.specs.declared.Turn.{Turn}
 use Rattle.records.specs.declared.Turn.TheVariants.{End, Cut, Long, Record}
 use Rattle.report.specs.Text.{heading, cut_line, line_of, count_line}

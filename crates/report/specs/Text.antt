@@ -2,7 +2,8 @@
 use Rattle.std.specs.Prelude.{ℕ, zero, suc, ◌+◌, ◌/◌, ◌%◌, List, [], ◌∷◌, ◌++◌, eqb}
 use Rattle.bits.specs.Pick.{pick}
 use Rattle.answer.specs.Answer.{Answer, Answer.accepted, Answer.refused}
-use Rattle.records.specs.Record.{Content, Content.aes3, Content.hd, Content.madi, Content.ctl}
+use Rattle.records.specs.declared.Content.{Content}
+use Rattle.records.specs.declared.Content.TheVariants.{Aes3, Hd, Madi, Ctl}
 
 -- ---- words
 
@@ -69,10 +70,10 @@ pair_text word a b = word ++ decimal a ++ blank ++ decimal b ++ line_end
 
 -- what is answered of a record
 unfoldable pub answer_text : Answer Content → List ℕ
-answer_text (accepted (aes3 a b)) = pair_text aes3_ok a b
-answer_text (accepted (hd group dbn)) = pair_text hd_ok group dbn
-answer_text (accepted (madi active commands)) = pair_text madi_ok active commands
-answer_text (accepted (ctl group)) = single_text ctl_ok group
+answer_text (accepted (Aes3 a b)) = pair_text aes3_ok a b
+answer_text (accepted (Hd group dbn)) = pair_text hd_ok group dbn
+answer_text (accepted (Madi active commands)) = pair_text madi_ok active commands
+answer_text (accepted (Ctl group)) = single_text ctl_ok group
 answer_text (refused number place) = pair_text refused_word number place
 
 -- the line of record n

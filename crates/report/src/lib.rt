@@ -3,8 +3,9 @@
 #![tactic(auto)]
 
 ghost use Rattle.std.specs.Prelude.{◌≡◌, ◌++◌, ◌+◌, ◌≤◌, ◌<◌, length};
-ghost use Rattle.answer.specs.Answer.{Answer.refused};
-ghost use Rattle.records.specs.Record.{outcome_said, record_answer};
+ghost use Rattle.answer.specs.Answer.{accepted, refused};
+ghost use Rattle.answer.specs.Said.{said};
+ghost use Rattle.records.specs.Record.{record_answer};
 ghost use Rattle.report.specs.Text.{heading, cut_line, answer_text, line_of, count_line};
 ghost use Rattle.report.specs.Placed.{start_in, start_of, with_text};
 ghost use Rattle.report.specs.Inner.{Put, tail_text};
@@ -13,12 +14,13 @@ ghost use Rattle.report.specs.Night.{name_of, last_text, group_line, refused_cou
 
 mod text;
 
-use records::{Outcome, Turn};
+use answer::Refusal;
+use records::{Content, Turn};
 use replay::Next;
 
 // Where the text that is printed starts, which goes to the end of the lent buffer; how many records are counted then;
 // and whether it is the report's last.
-#[derive(Clone, Copy)]
+#[derive(Clone, Copy, Debug, PartialEq, Eq)]
 pub struct Step {
     pub from: usize,
     pub records: u64,
@@ -27,32 +29,42 @@ pub struct Step {
 
 // ---- the lines of a report, put before a place of a buffer
 
-fn put_outcome(out: &mut [u8], end: usize, o: Outcome) -> usize
+fn put_content(out: &mut [u8], end: usize, content: Content) -> usize
     requires { (51 ≤ end) × (end ≤ length out.old) }
-    ensures put { Put out.old end (answer_text (outcome_said o)) result out.new }
+    ensures put { Put out.old end (answer_text (accepted content)) result out.new }
     ensures end_bound { end ≤ result + 51 }
 {
-    match o {
-        Outcome::Aes3 { a, b } => text::put_pair(out, end, b" aes3 ok ", a, b),
-        Outcome::Hd { group, dbn } => text::put_pair(out, end, b" hd ok ", group, dbn),
-        Outcome::Madi { active, commands } => text::put_pair(
+    match content {
+        Content::Aes3 { a, b } => text::put_pair(out, end, b" aes3 ok ", a, b),
+        Content::Hd { group, dbn } => text::put_pair(out, end, b" hd ok ", group, dbn),
+        Content::Madi { active, commands } => text::put_pair(
             out,
             end,
             b" madi ok ",
             active,
             commands,
         ),
-        Outcome::Ctl { group } => text::put_single(out, end, b" ctl ok ", group as u64),
-        Outcome::Refused { number, place } => text::put_pair(out, end, b" refused ", number, place),
+        Content::Ctl { group } => text::put_single(out, end, b" ctl ok ", u64::from(group)),
+    }
+}
+
+fn put_answer(out: &mut [u8], end: usize, answer: Result<Content, Refusal>) -> usize
+    requires { (51 ≤ end) × (end ≤ length out.old) }
+    ensures put { Put out.old end (answer_text (said answer)) result out.new }
+    ensures end_bound { end ≤ result + 51 }
+{
+    match answer {
+        Ok(content) => put_content(out, end, content),
+        Err(refusal) => text::put_pair(out, end, b" refused ", refusal.number(), refusal.place()),
     }
 }
 
 // The line of record n.
-fn put_line(out: &mut [u8], end: usize, n: u64, o: Outcome) -> usize
+fn put_line(out: &mut [u8], end: usize, n: u64, answer: Result<Content, Refusal>) -> usize
     requires { (71 ≤ end) × (end ≤ length out.old) }
-    ensures { Put out.old end (line_of n (outcome_said o)) result out.new }
+    ensures { Put out.old end (line_of n (said answer)) result out.new }
 {
-    let t = put_outcome(out, end, o);
+    let t = put_answer(out, end, answer);
     text::put_number(out, t, n)
 }
 
@@ -98,15 +110,7 @@ fn too_long(n: u64, out: &mut [u8; 128]) -> usize
     ensures out_after { out.new ≡ with_text (line_of n (refused 2 0) ++ count_line n) out.old }
 {
     let t = put_count(out, n);
-    put_line(
-        out,
-        t,
-        n,
-        Outcome::Refused {
-            number: 2,
-            place: 0,
-        },
-    )
+    put_line(out, t, n, Err(Refusal::Range))
 }
 
 // ---- a record
@@ -234,9 +238,7 @@ fn put_refusals(out: &mut [u8], end: usize, figures: &[u32; 110], group: u32) ->
     ensures end_bound { end ≤ result + 1386 }
 {
     let mut at = end;
-    let mut n: u32 = 18;
-    while 0 < n {
-        n -= 1;
+    for n in (0..18).rev() {
         at = put_refused(out, at, figures, group, n);
     }
     at

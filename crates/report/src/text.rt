@@ -5,6 +5,7 @@ ghost use Rattle.report.specs.Text.{decimal, single_text, pair_text};
 ghost use Rattle.report.specs.Night.{field_text};
 ghost use Rattle.report.specs.Inner.{Put};
 
+// Buffer and place are no struct: one that holds the buffer would add to each contract that it still holds that one.
 fn put_octet(out: &mut [u8], end: usize, x: u8) -> usize
     requires { (1 ≤ end) × (end ≤ length out.old) }
     ensures { Put out.old end (x ∷ []) result out.new }
@@ -19,11 +20,7 @@ pub(crate) fn put(out: &mut [u8], end: usize, word: &[u8]) -> usize
     ensures { Put out.old end word.now result out.new }
 {
     let from = end - word.len();
-    let mut i = 0;
-    while i < word.len() {
-        out[from + i] = word[i];
-        i += 1;
-    }
+    out[from..end].copy_from_slice(word);
     from
 }
 
@@ -33,10 +30,8 @@ pub(crate) fn put_number(out: &mut [u8], end: usize, n: u64) -> usize
     ensures end_bound { end ≤ result + 20 }
 {
     let base = end - 20;
-    let mut left: usize = 20;
     let mut rest = n;
-    while 0 < left {
-        left -= 1;
+    for left in (0..20).rev() {
         out[base + left] = (48 + rest % 10) as u8;
         rest /= 10;
         if rest == 0 {
@@ -50,7 +45,7 @@ pub(crate) fn put_number(out: &mut [u8], end: usize, n: u64) -> usize
 pub(crate) fn wide(n: u32) -> u64
     ensures { result ≡ n }
 {
-    n as u64
+    u64::from(n)
 }
 
 // A word and a number, which end the line.
@@ -71,9 +66,9 @@ pub(crate) fn put_pair(out: &mut [u8], end: usize, word: &[u8], a: u32, b: u32) 
     ensures end_bound { end ≤ result + length word.now + 42 }
 {
     let t = put_octet(out, end, b'\n');
-    let t = put_number(out, t, b as u64);
+    let t = put_number(out, t, u64::from(b));
     let t = put_octet(out, t, b' ');
-    let t = put_number(out, t, a as u64);
+    let t = put_number(out, t, u64::from(a));
     put(out, t, word)
 }
 
@@ -83,6 +78,6 @@ pub(crate) fn put_field(out: &mut [u8], end: usize, word: &[u8], n: u32) -> usiz
     ensures put { Put out.old end (field_text word.now n) result out.new }
     ensures end_bound { end ≤ result + length word.now + 20 }
 {
-    let t = put_number(out, end, n as u64);
+    let t = put_number(out, end, u64::from(n));
     put(out, t, word)
 }

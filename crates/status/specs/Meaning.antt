@@ -39,7 +39,11 @@ in_table (row ∷ rows) other x = pick (eqb x row.0) row.1 (in_table rows other 
 unfoldable pub emphasis_of : ℕ → Emphasis
 emphasis_of x =
     in_table
-    ((0b000, emphasis.NotIndicated) ∷ (0b001, emphasis.NoEmphasis) ∷ (0b011, emphasis.Micros50) ∷ (0b111, emphasis.J17) ∷ [])
+    ((0b000, emphasis.NotIndicated)
+    ∷ (0b001, emphasis.NoEmphasis)
+    ∷ (0b011, emphasis.Micros50)
+    ∷ (0b111, emphasis.J17)
+    ∷ [])
     (emphasis.Reserved x)
     x
 
@@ -145,7 +149,11 @@ word_length_of (auxiliary.Reserved y) x = word.Reserved x
 unfoldable pub alignment_of : ℕ → Alignment
 alignment_of x =
     in_table
-    ((0b00, alignment.NotIndicated) ∷ (0b10, alignment.Rp155) ∷ (0b01, alignment.R68) ∷ (0b11, alignment.Reserved 0b11) ∷ [])
+    ((0b00, alignment.NotIndicated)
+    ∷ (0b10, alignment.Rp155)
+    ∷ (0b01, alignment.R68)
+    ∷ (0b11, alignment.Reserved 0b11)
+    ∷ [])
     alignment.NotIndicated
     x
 
@@ -170,4 +178,6 @@ meaning_of byte0 byte1 byte2 =
     pick (eqb (field 0 1 byte0) 0)
     Consumer
     (Professional
-    (pick (eqb (field 1 1 byte0) 0) (LinearPcm (described_by byte0 byte1 byte2)) (OtherPurpose (described_by byte0 byte1 byte2))))
+    (pick (eqb (field 1 1 byte0) 0)
+    (LinearPcm (described_by byte0 byte1 byte2))
+    (OtherPurpose (described_by byte0 byte1 byte2))))

@@ -4,13 +4,13 @@
 
 ghost use Rattle.std.specs.Prelude.{◌≡◌};
 ghost use Rattle.status.specs.Meaning.{described_by, meaning_of};
-ghost use Rattle.status.specs.Numbers.{numbers_by, consumer_numbers, numbers_of};
+ghost use Rattle.status.specs.Numbers.{numbers_by, numbers_of};
 
 mod numbers;
 mod tables;
 
 // 50 µs and 15 µs as in BS.450, or as in ITU-T J.17.
-#[derive(Clone, Copy)]
+#[derive(Clone, Copy, Debug, PartialEq, Eq)]
 pub enum Emphasis {
     NotIndicated,
     NoEmphasis,
@@ -19,13 +19,13 @@ pub enum Emphasis {
     Reserved(u8),
 }
 
-#[derive(Clone, Copy)]
+#[derive(Clone, Copy, Debug, PartialEq, Eq)]
 pub enum Lock {
     NotIndicated,
     Unlocked,
 }
 
-#[derive(Clone, Copy)]
+#[derive(Clone, Copy, Debug, PartialEq, Eq)]
 pub enum Rate {
     NotIndicated,
     Hz48000,
@@ -34,7 +34,7 @@ pub enum Rate {
 }
 
 // Two rows of the table are for users' own applications: the name says which.
-#[derive(Clone, Copy)]
+#[derive(Clone, Copy, Debug, PartialEq, Eq)]
 pub enum Mode {
     NotIndicated,
     TwoChannel,
@@ -52,7 +52,7 @@ pub enum Mode {
 
 // Blocks of 192 bits with the user's own content or as in AES52, or the general format of IEC 60958-3; two states are
 // kept for AES18 and for IEC 62537.
-#[derive(Clone, Copy)]
+#[derive(Clone, Copy, Debug, PartialEq, Eq)]
 pub enum User {
     NotIndicated,
     Block192,
@@ -66,7 +66,7 @@ pub enum User {
 
 // The longest word is of 20 bits where the auxiliary bits have no defined use or carry a coordination signal, and of
 // 24 where they belong to the main audio.
-#[derive(Clone, Copy)]
+#[derive(Clone, Copy, Debug, PartialEq, Eq)]
 pub enum Auxiliary {
     NotDefined,
     MainAudio,
@@ -76,7 +76,7 @@ pub enum Auxiliary {
 }
 
 // How many bits a sample word has; under a reserved or user-defined use of the auxiliary bits, reserved.
-#[derive(Clone, Copy)]
+#[derive(Clone, Copy, Debug, PartialEq, Eq)]
 pub enum WordLength {
     NotIndicated,
     Bits(u8),
@@ -84,7 +84,7 @@ pub enum WordLength {
 }
 
 // 20 dB (SMPTE RP155) or 18.06 dB (EBU R68) below the maximum code.
-#[derive(Clone, Copy)]
+#[derive(Clone, Copy, Debug, PartialEq, Eq)]
 pub enum Alignment {
     NotIndicated,
     Rp155,
@@ -92,7 +92,7 @@ pub enum Alignment {
     Reserved(u8),
 }
 
-#[derive(Clone, Copy)]
+#[derive(Clone, Copy, Debug, PartialEq, Eq)]
 pub struct Description {
     pub emphasis: Emphasis,
     pub lock: Lock,
@@ -106,27 +106,28 @@ pub struct Description {
 
 // All fields are described by the same tables for both. BS.647-3, part 3, 3.4 keeps only lock, rate, user bits and
 // the use of the auxiliary bits for another purpose; what the other fields say then is left to the reader.
-#[derive(Clone, Copy)]
+#[derive(Clone, Copy, Debug, PartialEq, Eq)]
 pub enum Audio {
     LinearPcm(Description),
     OtherPurpose(Description),
 }
 
-#[derive(Clone, Copy)]
+#[derive(Clone, Copy, Debug, PartialEq, Eq)]
 pub enum Use {
     Consumer,
     Professional(Audio),
 }
 
-// A state in numbers: its own number, and the bits of a reserved one.
-#[derive(Clone, Copy)]
+// A state in numbers: its own number, and the bits of a reserved one. Numbers and no enum: these are what the C struct
+// of `lampcoil_status_read` (`ToldMeaning`) holds.
+#[derive(Clone, Copy, Debug, PartialEq, Eq)]
 pub struct StateNumber {
     pub state: u32,
     pub bits: u32,
 }
 
 // What is not reserved has 0 for its bits; consumer use has 0 everywhere.
-#[derive(Clone, Copy)]
+#[derive(Clone, Copy, Debug, Default, PartialEq, Eq)]
 pub struct MeaningNumbers {
     pub usage: u32,
     pub audio: u32,
@@ -151,20 +152,20 @@ pub struct MeaningNumbers {
 fn described(byte0: u8, byte1: u8, byte2: u8) -> Description
     ensures { result ≡ described_by byte0 byte1 byte2 }
 {
-    let auxiliary = tables::auxiliary_of(byte2 % 8);
+    let auxiliary = Auxiliary::from(byte2 % 8);
     Description {
-        emphasis: tables::emphasis_of(byte0 / 4 % 8),
-        lock: tables::lock_of(byte0 / 32 % 2),
-        rate: tables::rate_of(byte0 / 64 % 4),
-        mode: tables::mode_of(byte1 % 16),
-        user: tables::user_of(byte1 / 16 % 16),
-        auxiliary: auxiliary,
-        word_length: tables::word_length_of(auxiliary, byte2 / 8 % 8),
-        alignment: tables::alignment_of(byte2 / 64 % 4),
+        emphasis: Emphasis::from(byte0 / 4 % 8),
+        lock: Lock::from(byte0 / 32 % 2),
+        rate: Rate::from(byte0 / 64 % 4),
+        mode: Mode::from(byte1 % 16),
+        user: User::from(byte1 / 16 % 16),
+        auxiliary,
+        word_length: WordLength::under(auxiliary, byte2 / 8 % 8),
+        alignment: Alignment::from(byte2 / 64 % 4),
     }
 }
 
-// The meaning of bytes 0 to 2.
+// The meaning of bytes 0 to 2, which `meaning_of` and its theorems (Lossless) take one by one, as here.
 pub fn meaning(byte0: u8, byte1: u8, byte2: u8) -> Use
     ensures { result ≡ meaning_of byte0 byte1 byte2 }
 {
@@ -184,29 +185,19 @@ pub fn meaning(byte0: u8, byte1: u8, byte2: u8) -> Use
 fn numbers_by(audio: u32, d: Description) -> MeaningNumbers
     ensures { result ≡ numbers_by audio d }
 {
-    let emphasis = d.emphasis;
-    let lock = d.lock;
-    let rate = d.rate;
-    let mode = d.mode;
-    let user = d.user;
-    let auxiliary = d.auxiliary;
-    let word_length = d.word_length;
-    let alignment = d.alignment;
-    let emphasis = numbers::emphasis_number(emphasis);
-    let lock = numbers::lock_number(lock);
-    let rate = numbers::rate_number(rate);
-    let mode = numbers::mode_number(mode);
-    let user = numbers::user_number(user);
-    let auxiliary = numbers::auxiliary_number(auxiliary);
-    let word_length = numbers::word_length_number(word_length);
-    let alignment = numbers::alignment_number(alignment);
+    let emphasis = StateNumber::from(d.emphasis);
+    let mode = StateNumber::from(d.mode);
+    let user = StateNumber::from(d.user);
+    let auxiliary = StateNumber::from(d.auxiliary);
+    let word_length = StateNumber::from(d.word_length);
+    let alignment = StateNumber::from(d.alignment);
     MeaningNumbers {
         usage: 1,
         audio,
         emphasis: emphasis.state,
         emphasis_bits: emphasis.bits,
-        lock,
-        rate,
+        lock: u32::from(d.lock),
+        rate: u32::from(d.rate),
         mode: mode.state,
         mode_bits: mode.bits,
         user: user.state,
@@ -220,38 +211,13 @@ fn numbers_by(audio: u32, d: Description) -> MeaningNumbers
     }
 }
 
-fn consumer() -> MeaningNumbers
-    ensures { result ≡ consumer_numbers }
-{
-    MeaningNumbers {
-        usage: 0,
-        audio: 0,
-        emphasis: 0,
-        emphasis_bits: 0,
-        lock: 0,
-        rate: 0,
-        mode: 0,
-        mode_bits: 0,
-        user: 0,
-        user_bits: 0,
-        auxiliary: 0,
-        auxiliary_bits: 0,
-        word_length: 0,
-        word_length_bits: 0,
-        alignment: 0,
-        alignment_bits: 0,
-    }
-}
-
 // The meaning of bytes 0 to 2 in numbers.
 pub fn meaning_numbers(byte0: u8, byte1: u8, byte2: u8) -> MeaningNumbers
     ensures { result ≡ numbers_of (meaning_of byte0 byte1 byte2) }
 {
     match meaning(byte0, byte1, byte2) {
-        Use::Consumer => consumer(),
-        Use::Professional(audio) => match audio {
-            Audio::LinearPcm(d) => numbers_by(0, d),
-            Audio::OtherPurpose(d) => numbers_by(1, d),
-        },
+        Use::Consumer => MeaningNumbers::default(),
+        Use::Professional(Audio::LinearPcm(d)) => numbers_by(0, d),
+        Use::Professional(Audio::OtherPurpose(d)) => numbers_by(1, d),
     }
 }

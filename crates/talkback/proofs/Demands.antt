@@ -1,24 +1,30 @@
 -- What is demanded: what the code's one search says of each kind of refusal, and what a block that is accepted has.
 -- Assumes nothing.
-use mathlib.Core.Path.{◌≡◌, refl, sym, ap, ap₂, ◌∙◌}
+use mathlib.Core.Path.{◌≡◌, refl, sym, ap, ap₂, ◌∙◌, subst}
 use mathlib.Core.Bool.{Bool, true, false, not, ◌&&◌, ◌||◌}
-use mathlib.Core.List.{List}
+use mathlib.Core.List.{List, [], ◌∷◌}
 use Prim.Native.Nat.{ℕ, zero, suc, ◌+◌, ◌-◌, ◌^◌, ◌≤◌, ◌<◌}
+use native.Mathlib.Nat.{zero-add}
 use native.Mathlib.Omega.{arith}
 use borrow.Author.Tests.{eq-eqb, ne_eqb, eqb-true, lt-ltb, le-ltb, not-false}
 use lib.Dec.{eqb, ltb}
 use lib.IntN.{ℤ, pos}
 use lib.ListN.{length, get_or}
 use lib.Signed.{mag}
-use Rattle.answer.specs.Answer.{Answer.accepted}
-use Rattle.answer.specs.Demand.{◌&◌}
-use Rattle.answer.proofs.Chains.{met, passing}
+use Rattle.answer.specs.Answer.{Answer, Answer.accepted}
+use Rattle.answer.specs.Said.{number_of, place_of, said}
+use Rattle.answer.specs.declared.Refusal.{Refusal}
+use Rattle.answer.specs.Demand.{Demand, Demand.finds_none, provided, AllMet, Stops, ◌&◌}
+use Rattle.answer.specs.Demand.Stops.{found, later}
+use Rattle.answer.proofs.Chains.{met, passing, search-cases}
+use Rattle.bits.specs.Pick.{first}
+use Rattle.std.specs.Prelude.{Option, Some, None, Err}
 use Rattle.subframe.specs.Signed.{in_range}
 use Rattle.block.specs.Side.{side_length}
 use Rattle.block.specs.Check.{outside}
-use Rattle.block.proofs.CheckLaws.{outside-range}
-use Rattle.talkback.specs.Talkback.{auxiliary, with_voice, undeclared, unfit, voice_outside, voice_join_demands, separate_demands, voice_join_answer, separate_answer}
-use Rattle.talkback.specs.Inner.{unfitting, Programs, AllIn}
+use Rattle.block.proofs.CheckLaws.{outside-range, refusal-stops, accepted-met}
+use Rattle.talkback.specs.Talkback.{auxiliary, with_voice, undeclared, unfit, use_demands, voice_outside, voice_join_demands, separate_demands, voice_join_answer, separate_answer}
+use Rattle.talkback.specs.Inner.{unfitting, Programs, AllIn, declared_checked}
 
 -- ---- one search for each kind
 
@@ -60,6 +66,64 @@ unfolding voice_outside unfitting
 voice-is voice i =
     let e : 384 + i - 384 ≡ i = omega arith in
     ap (λ (k : ℕ). not (in_range 12 (get_or voice k (pos 0)))) e ∙ any-low (2 ^ 11) (get_or voice i (pos 0))
+
+-- ---- lengths and use
+
+module _ (p v n : ℕ) (side : List ℕ) (np : p ≡ 384) (nv : v ≡ 128) (ns : length side ≡ side_length) (nn : n ≡ 384) where
+  pub use-stops : {number place : ℕ} → Stops (finds_none 19 (undeclared side) 0 2 ∷ []) number place → Stops (use_demands p v side n) number place
+  use-stops s = later (eq-eqb p 384 np) (later (eq-eqb v 128 nv) (later (eq-eqb (length side) side_length ns) (later (eq-eqb n 384 nn) s)))
+
+  pub use-met : ((i : ℕ) → 0 ≤ i → i < 0 + 2 → undeclared side i ≡ false) → AllMet (use_demands p v side n)
+  use-met d = eq-eqb p 384 np & eq-eqb v 128 nv & eq-eqb (length side) side_length ns & eq-eqb n 384 nn & d & tt
+
+-- the side table is the slice, as an array
+module _ (s t : List ℕ) (same : s ≡ t) where
+  pub declared-stops : (e : Refusal) → said {A = Unit {0}} (Err e) ≡ declared_checked s
+      → Stops (finds_none 19 (undeclared t) 0 2 ∷ []) (number_of e) (place_of e)
+  unfolding declared_checked
+  declared-stops e h = refusal-stops (finds_none 19 (undeclared t) 0 2 ∷ []) e (h ∙ ap (λ (x : List ℕ). provided (finds_none 19 (undeclared x) 0 2 ∷ []) (accepted tt)) same)
+
+  pub declared-met : ◌≡◌ {A = Answer (Unit {0})} (accepted tt) (declared_checked s) → (i : ℕ) → 0 ≤ i → i < 0 + 2 → undeclared t i ≡ false
+  unfolding declared_checked
+  declared-met h = (accepted-met (finds_none 19 (undeclared t) 0 2 ∷ []) (h ∙ ap (λ (x : List ℕ). provided (finds_none 19 (undeclared x) 0 2 ∷ []) (accepted tt)) same)).0
+
+-- ---- what a search gave: the place of one, counted from m, or none
+
+module _ (p q : ℕ → Bool) (m n many : ℕ) {r : Option ℕ} (same : (i : ℕ) → q (m + i) ≡ p i) (long : many ≡ n)
+    (e : r ≡ first p 0 many (λ i. Some i) None) where
+  back : (j : ℕ) → m ≤ j → p (j - m) ≡ false → q j ≡ false
+  back j l f = let d : m + (j - m) ≡ j = omega arith in ap q (sym d) ∙ same (j - m) ∙ f
+
+  pub one-there : {number k : ℕ} {ds : List Demand} → r ≡ Some k → Stops (finds_none number q m n ∷ ds) number (m + k)
+  one-there {number} {k} {ds} h =
+      search-cases p (λ i. Some i) None 0 many (λ x. Some k ≡ x → Stops (finds_none number q m n ∷ ds) number (m + k))
+      (λ i l u t before x. let z : k ≡ i = cc in rw z (found {k = m} {n = n} {i = m + i} {p = q} (omega arith) (omega arith) (same i ∙ t)
+      (λ j below above. back j below (before (j - m) (omega arith) (omega arith)))))
+      (λ none x. cc) (sym h ∙ e)
+
+  pub none-there : r ≡ None → (j : ℕ) → m ≤ j → j < m + n → q j ≡ false
+  none-there h =
+      search-cases p (λ i. Some i) None 0 many (λ x. None ≡ x → (j : ℕ) → m ≤ j → j < m + n → q j ≡ false)
+      (λ i l u t before x. cc)
+      (λ none x j below above. back j below (none (j - m) (omega arith) (omega arith))) (sym h ∙ e)
+
+pub below-many : (p : ℕ → Bool) (many : ℕ) {r : Option ℕ} {k : ℕ} → r ≡ first p 0 many (λ i. Some i) None → r ≡ Some k → k < many
+below-many p many {r} {k} e h =
+    search-cases p (λ i. Some i) None 0 many (λ x. Some k ≡ x → k < many)
+    (λ i l u t before x. let z : k ≡ i = cc in omega arith) (λ none x. cc) (sym h ∙ e)
+
+-- the places themselves
+module _ (p q : ℕ → Bool) (n many : ℕ) {r : Option ℕ} (same : (i : ℕ) → q i ≡ p i) (long : many ≡ n)
+    (e : r ≡ first p 0 many (λ i. Some i) None) where
+  from-zero : (i : ℕ) → q (0 + i) ≡ p i
+  from-zero i = ap q (zero-add i) ∙ same i
+
+  pub one-here : {number k : ℕ} {ds : List Demand} → r ≡ Some k → Stops (finds_none number q 0 n ∷ ds) number k
+  one-here {number} {k} {ds} h =
+      subst (λ (x : ℕ). Stops (finds_none number q 0 n ∷ ds) number x) (zero-add k) (one-there p q 0 n many from-zero long e h)
+
+  pub none-here : r ≡ None → (j : ℕ) → 0 ≤ j → j < 0 + n → q j ≡ false
+  none-here = none-there p q 0 n many from-zero long e
 
 -- ---- what was not refused
 

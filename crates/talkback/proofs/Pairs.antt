@@ -1,36 +1,20 @@
 -- Two samples side by side in 64 bits: their 32 bits each, and what becomes of them where four are added. Assumes nothing.
-use mathlib.Core.Path.{◌≡◌, refl, ap, ap₂, ◌∙◌, subst⁻¹}
+use mathlib.Core.Path.{◌≡◌, refl, sym, ap, ap₂, ◌∙◌}
 use mathlib.Core.Bool.{true}
-use Prim.Native.Nat.{ℕ, suc, ◌+◌, ◌-◌, ◌*◌, ◌/◌, ◌%◌, ◌^◌, ◌≤◌, ◌<◌}
+use Prim.Native.Nat.{ℕ, suc, ◌+◌, ◌-◌, ◌*◌, ◌/◌, ◌%◌, ◌^◌, ◌<◌}
 use native.Mathlib.Omega.{arith}
 use borrow.Author.Tests.{lt-ltb, le-ltb, ltb-true}
 use lib.Bits.{bit_and, and_block, and_mask}
-use lib.Dec.{T}
-use lib.IntN.{ℤ, pos, negsuc, nat_abs, ◌+ℤ◌, ◌-ℤ◌}
-use lib.Signed.{mag, non_neg}
-use mir.Syntax.{w32, w64}
-use mir.Val.{SFits, Fits, to_z, of_z}
-use mir.Facts.{to_z-of_z, to_z_pos}
+use lib.IntN.{ℤ, pos, negsuc}
+use lib.Signed.{mag}
+use mir.Syntax.{w32}
+use mir.Val.{SFits, to_z, of_z}
+use mir.Facts.{to_z-of_z}
 use Rattle.subframe.specs.Signed.{in_range, code_of, signed_of}
+use Rattle.subframe.proofs.SignedLaws.{signed-in, code-signed}
 use Rattle.talkback.specs.Talkback.{auxiliary, main, sample_with}
 
 -- ---- 32 bits of a sample
-
-abbrev up : ℤ → ℕ
-up (pos n) = n + 2 ^ 32
-up (negsuc n) = 2 ^ 32 - suc n
-
-up-sum : (z : ℤ) → mag z < 2 ^ 31 → z +ℤ pos (2 ^ 32) ≡ pos (up z)
-up-sum (pos n) l = refl
-up-sum (negsuc n) l = rw (le-ltb (2 ^ 32) (suc n) (omega arith))
-
-up_lt : (z : ℤ) → mag z < 2 ^ 31 → up z < 2 ^ 33
-up_lt (pos n) l = omega arith
-up_lt (negsuc n) l = omega arith
-
-up-code : (z : ℤ) → mag z < 2 ^ 31 → up z % 2 ^ 32 ≡ code_of 32 z
-up-code (pos n) l = omega arith
-up-code (negsuc n) l = omega arith
 
 pub code-32-lt : (z : ℤ) → SFits w32 z → code_of 32 z < 2 ^ 32
 code-32-lt z held = go z held.sfits
@@ -39,49 +23,16 @@ code-32-lt z held = go z held.sfits
     go (pos n) l = omega arith
     go (negsuc n) l = omega arith
 
-module _ {z : ℤ} (held : SFits w32 z) where
-  low : mag z < 2 ^ 31
-  low = held.sfits
+-- as casts have it
+of_z-code : (z : ℤ) → of_z w32 z ≡ code_of 32 z
+of_z-code (pos n) = refl
+of_z-code (negsuc n) = refl
 
-  pub wide-held : SFits w64 (to_z w32 (of_z w32 z))
-  wide-held = subst⁻¹ (SFits w64) (to_z-of_z held) (record { sfits = omega (arith, low) })
-
-  abbrev sum : ℤ
-  sum = to_z w64 (of_z w64 (to_z w32 (of_z w32 z))) +ℤ pos (2 ^ 32)
-
-  sum-up : sum ≡ pos (up z)
-  sum-up = ap (λ (y : ℤ). y +ℤ pos (2 ^ 32)) (to_z-of_z wide-held ∙ to_z-of_z held) ∙ up-sum z low
-
-  pub up_fits : SFits w64 sum
-  up_fits = subst⁻¹ (SFits w64) sum-up (record { sfits = omega (arith, up_lt z low) })
-
-  up-held : to_z w64 (of_z w64 sum) ≡ pos (up z)
-  up-held = to_z-of_z up_fits ∙ sum-up
-
-  pub up-natural : T (non_neg (to_z w64 (of_z w64 sum))) × Fits w64 (nat_abs (to_z w64 (of_z w64 sum)))
-  up-natural =
-      subst⁻¹ (λ (y : ℤ). T (non_neg y) × Fits w64 (nat_abs y)) up-held
-      (tt, record { fits = omega (arith, up_lt z low) })
-
-  pub up_is : nat_abs (to_z w64 (of_z w64 sum)) % 2 ^ 32 ≡ code_of 32 z
-  up_is = ap (λ (y : ℤ). nat_abs y % 2 ^ 32) up-held ∙ up-code z low
-
--- and the sample that has the sign
-module _ (w : ℕ) (h : w < 2 ^ 32) (s : 2 ^ 31 ≤ w) where
-  down_is : to_z w64 w -ℤ pos (2 ^ 32) ≡ negsuc (2 ^ 32 - suc w)
-  down_is = ap (λ (y : ℤ). y -ℤ pos (2 ^ 32)) (to_z_pos w64 {n = w} (omega arith)) ∙ rw (lt-ltb w (2 ^ 32) h)
-
-  pub down_fits : SFits w64 (to_z w64 w -ℤ pos (2 ^ 32))
-  down_fits = subst⁻¹ (SFits w64) down_is (record { sfits = omega arith })
-
-  down-held : to_z w64 (of_z w64 (to_z w64 w -ℤ pos (2 ^ 32))) ≡ negsuc (2 ^ 32 - suc w)
-  down-held = to_z-of_z down_fits ∙ down_is
-
-  pub down-narrow : SFits w32 (to_z w64 (of_z w64 (to_z w64 w -ℤ pos (2 ^ 32))))
-  down-narrow = subst⁻¹ (SFits w32) down-held (record { sfits = omega arith })
-
-  pub down-signed : to_z w32 (of_z w32 (to_z w64 (of_z w64 (to_z w64 w -ℤ pos (2 ^ 32))))) ≡ signed_of 32 w
-  down-signed = to_z-of_z down-narrow ∙ down-held ∙ rw (le-ltb w (2 ^ 31) s)
+pub to_z-signed : (n : ℕ) → n < 2 ^ 32 → to_z w32 n ≡ signed_of 32 n
+to_z-signed n h =
+    let z = signed_of 32 n in
+    let held : SFits w32 z = record { sfits = ltb-true (mag z) (2 ^ 31) (signed-in 32 (omega arith) n h) } in
+    ap (to_z w32) (sym (of_z-code z ∙ code-signed 32 (omega arith) n h)) ∙ to_z-of_z held
 
 -- ---- four bits added
 

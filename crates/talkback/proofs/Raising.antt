@@ -1,80 +1,23 @@
 -- All samples at once: what a raised sample tells of its sample, and what the bits of all together tell of each. Assumes
 -- nothing.
-use mathlib.Core.Path.{◌≡◌, refl, sym, ap, ap₂, ◌∙◌, subst, subst⁻¹}
+use mathlib.Core.Path.{◌≡◌, sym, ap, subst}
 use mathlib.Core.Logic.{⊎_elim}
-use mathlib.Core.Bool.{false}
+use mathlib.Core.Bool.{Bool, true, false, ◌&&◌}
 use mathlib.Core.List.{List}
-use Prim.Native.Nat.{ℕ, suc, ◌+◌, ◌-◌, ◌*◌, ◌%◌, ◌^◌, ◌≤◌, ◌<◌}
+use Prim.Native.Nat.{ℕ, ◌+◌, ◌*◌, ◌%◌, ◌^◌, ◌≤◌, ◌<◌}
 use native.Mathlib.Omega.{arith}
-use borrow.Author.Tests.{lt-ltb, le-ltb}
+use borrow.Author.Tests.{lt-ltb, le-ltb, ltb-true}
 use lib.Bits.{bit_or, or_mod, or_add_and, and_le_l, and_le_r}
-use lib.Dec.{T}
-use lib.IntN.{ℤ, pos, negsuc, nat_abs, ◌+ℤ◌}
+use lib.Dec.{ltb}
+use lib.IntN.{ℤ, pos}
 use lib.ListN.{get_or}
-use lib.Signed.{mag, non_neg}
-use mir.Syntax.{w32, w64}
-use mir.Val.{SFits, Fits, to_z, of_z}
-use mir.Facts.{to_z-of_z, to_z_pos}
+use lib.Signed.{mag}
+use Rattle.bits.specs.Pick.{first}
 use Rattle.bits.proofs.Beside.{same_or_not}
+use Rattle.bits.proofs.Tests.{both_true, no-yes, order}
+use Rattle.answer.proofs.Chains.{search-cases}
 use Rattle.talkback.specs.Talkback.{auxiliary}
-use Rattle.talkback.specs.Inner.{Raises, Unites, unfitting}
-
--- ---- one sample
-
--- the sample with 2 ^ 32 and half its range added
-abbrev moved : ℕ → ℤ → ℕ
-moved half (pos n) = n + (2 ^ 32 + half)
-moved half (negsuc n) = 2 ^ 32 + half - suc n
-
-module _ (half : ℕ) (small : half ≤ 2 ^ 23) (whole : half % 2 ^ 4 ≡ 0) where
-  moved_sum : (z : ℤ) → mag z < 2 ^ 31 → z +ℤ pos (2 ^ 32 + half) ≡ pos (moved half z)
-  moved_sum (pos n) l = refl
-  moved_sum (negsuc n) l = rw (le-ltb (2 ^ 32 + half) (suc n) (omega arith))
-
-  moved-lt : (z : ℤ) → mag z < 2 ^ 31 → moved half z < 2 ^ 33
-  moved-lt (pos n) l = omega arith
-  moved-lt (negsuc n) l = omega arith
-
-  moved-raises : (z : ℤ) → mag z < 2 ^ 31 → Raises half z (moved half z % 2 ^ 32)
-  moved-raises (pos n) l = (λ h. omega arith, λ h. omega arith)
-  moved-raises (negsuc n) l = (λ h. omega arith, λ h. omega arith)
-
-  -- as code computes it, of a sample that 32 bits hold
-  module _ {z : ℤ} (held : SFits w32 z) where
-    low : mag z < 2 ^ 31
-    low = held.sfits
-
-    pub wider : SFits w64 (to_z w32 (of_z w32 z))
-    wider = subst⁻¹ (SFits w64) (to_z-of_z held) (record { sfits = omega (arith, low) })
-
-    half_pos : to_z w64 half ≡ pos half
-    half_pos = to_z_pos w64 {n = half} (omega arith)
-
-    up_is : pos (2 ^ 32) +ℤ to_z w64 half ≡ pos (2 ^ 32 + half)
-    up_is = ap (λ (y : ℤ). pos (2 ^ 32) +ℤ y) half_pos
-
-    pub up_fits : SFits w64 (pos (2 ^ 32) +ℤ to_z w64 half)
-    up_fits = subst⁻¹ (SFits w64) up_is (record { sfits = omega arith })
-
-    abbrev sum : ℤ
-    sum = to_z w64 (of_z w64 (to_z w32 (of_z w32 z))) +ℤ to_z w64 (of_z w64 (pos (2 ^ 32) +ℤ to_z w64 half))
-
-    sum_moved : sum ≡ pos (moved half z)
-    sum_moved = ap₂ (λ (x y : ℤ). x +ℤ y) (to_z-of_z wider ∙ to_z-of_z held) (to_z-of_z up_fits ∙ up_is) ∙ moved_sum z low
-
-    pub sum_fits : SFits w64 sum
-    sum_fits = subst⁻¹ (SFits w64) sum_moved (record { sfits = omega (arith, moved-lt z low) })
-
-    sum-held : to_z w64 (of_z w64 sum) ≡ pos (moved half z)
-    sum-held = to_z-of_z sum_fits ∙ sum_moved
-
-    pub sum-natural : T (non_neg (to_z w64 (of_z w64 sum))) × Fits w64 (nat_abs (to_z w64 (of_z w64 sum)))
-    sum-natural =
-        subst⁻¹ (λ (y : ℤ). T (non_neg y) × Fits w64 (nat_abs y)) sum-held
-        (tt, record { fits = omega (arith, moved-lt z low) })
-
-    pub sum-raises : Raises half z (nat_abs (to_z w64 (of_z w64 sum)) % 2 ^ 32)
-    sum-raises = subst⁻¹ (λ (y : ℤ). Raises half z (nat_abs y % 2 ^ 32)) sum-held (moved-raises z low)
+use Rattle.talkback.specs.Inner.{Raises, Unites, fitting, unfitting}
 
 -- ---- all of them
 
@@ -106,13 +49,41 @@ module _ (half : ℕ) (samples : List ℤ) where
       before d = omega (arith, d, h)
 
   -- where they fit together, each fits
-  pub all-fitting : (free n all : ℕ) → Unites half samples n all → all < 2 * half → all % 2 ^ 4 < free
+  pub all-fitting : (free n all : ℕ) → Unites half samples n all → (ltb all (2 * half) && ltb (all % 2 ^ 4) free) ≡ true
       → (i : ℕ) → i < n → unfitting half free samples i ≡ false
   unfolding unfitting
-  all-fitting free n all u h f i l =
+  all-fitting free n all u e i l =
+      let t = both_true (ltb all (2 * half)) (ltb (all % 2 ^ 4) free) e in
+      let h : all < 2 * half = ltb-true all (2 * half) t.0 in
+      let f : all % 2 ^ 4 < free = ltb-true (all % 2 ^ 4) free t.1 in
       let g = u i l in
       let x = g.0 in
       let z = get_or samples i (pos 0) in
       let m : mag z < half = g.1.0 (omega (arith, g.2)) in
-      let a : auxiliary z < free = omega (arith, g.1.1 m, g.3) in
+      let a : auxiliary z < free = omega (arith, g.1.2 m, g.3) in
       rw (lt-ltb (mag z) half m, lt-ltb (auxiliary z) free a)
+
+-- a raised sample is tested as the sample is
+pub raised-fits : (half free : ℕ) (z : ℤ) (x : ℕ) → Raises half z x → (ltb x (2 * half) && ltb (x % 2 ^ 4) free) ≡ fitting half free z
+raised-fits half free z x r =
+    ⊎_elim
+    (λ (m : half ≤ mag z). rw (le-ltb (mag z) half m, le-ltb x (2 * half) (above m)))
+    (λ (m : mag z < half). rw (lt-ltb (mag z) half m, lt-ltb x (2 * half) (r.1 m)) (ap (λ (n : ℕ). ltb n free) (sym (r.2 m))))
+    (order half (mag z))
+  where
+    above : half ≤ mag z → 2 * half ≤ x
+    above m =
+        ⊎_elim (λ (l : 2 * half ≤ x). l) (λ (l : x < 2 * half). let b = r.0 l in absurd (omega arith)) (order (2 * half) x)
+
+-- ---- a search for the first of them, as code makes it
+
+module _ {A : Type 0} (p : ℕ → Bool) (hit : ℕ → A) (miss : A) (n i : ℕ) (t : p i ≡ true) (before : (k : ℕ) → k < i → p k ≡ false) where
+  same : (j : ℕ) → p j ≡ true → ((k : ℕ) → 0 ≤ k → k < j → p k ≡ false) → i ≡ j
+  same j tj bj =
+      ⊎_elim (λ (l : i ≤ j). ⊎_elim (λ (m : j ≤ i). omega arith) (λ (m : i < j). no-yes (p i) (bj i (omega arith) m) t) (order j i))
+      (λ (l : j < i). no-yes (p j) (before j l) tj) (order i j)
+
+  pub first-at : i < n → hit i ≡ first p 0 n hit miss
+  first-at h =
+      search-cases p hit miss 0 n (λ x. hit i ≡ x) (λ j l u tj bj. ap hit (same j tj bj))
+      (λ none. no-yes (p i) (none i (omega arith) (omega arith)) t)

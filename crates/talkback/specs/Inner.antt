@@ -1,8 +1,10 @@
 -- What inner functions of the crate are held to. Assumes nothing.
-use Rattle.std.specs.Prelude.{◌≡◌, ℕ, ◌+◌, ◌*◌, ◌/◌, ◌%◌, ◌^◌, ◌<◌, ◌≤◌, Bool, true, not, ◌&&◌, List, ltb, ℤ, pos, get_or, set}
+use Rattle.std.specs.Prelude.{◌≡◌, ℕ, ◌+◌, ◌*◌, ◌/◌, ◌%◌, ◌^◌, ◌<◌, ◌≤◌, Bool, true, not, ◌&&◌, List, [], ◌∷◌, ltb, ℤ, pos, get_or, set}
 use Rattle.std.specs.Int.Signed.{mag}
 use Rattle.subframe.specs.Signed.{in_range}
-use Rattle.talkback.specs.Talkback.{auxiliary, main, sample_with}
+use Rattle.answer.specs.Answer.{Answer, Answer.accepted}
+use Rattle.answer.specs.Demand.{Demand.finds_none, provided}
+use Rattle.talkback.specs.Talkback.{auxiliary, main, sample_with, undeclared}
 
 -- a sample whose range ends at `half`, with less than `free` in slots 4 to 7
 abbrev pub fitting : ℕ → ℕ → ℤ → Bool
@@ -14,7 +16,7 @@ unfitting half free samples i = not (fitting half free (get_or samples i (pos 0)
 
 -- x is what is left in 32 bits of a sample moved up by half its range
 abbrev pub Raises : ℕ → ℤ → ℕ → Type 0
-Raises half z x = (x < 2 * half → mag z < half) × (mag z < half → auxiliary z ≡ x % 2 ^ 4)
+Raises half z x = (x < 2 * half → mag z < half) × (mag z < half → x < 2 * half) × (mag z < half → auxiliary z ≡ x % 2 ^ 4)
 
 -- none of the first n samples, raised, is above `all`, nor has more than `all` in slots 4 to 7
 abbrev pub Unites : ℕ → List ℤ → ℕ → ℕ → Type 0
@@ -38,3 +40,7 @@ unfoldable pub three_set : List ℤ → ℕ → ℕ → ℕ → List ℤ → Lis
 three_set program a b i samples =
     frame_set program (a / 2 ^ 8 % 2 ^ 4) (b / 2 ^ 8 % 2 ^ 4) (i + 4)
     (frame_set program (a / 2 ^ 4 % 2 ^ 4) (b / 2 ^ 4 % 2 ^ 4) (i + 2) (frame_set program (a % 2 ^ 4) (b % 2 ^ 4) i samples))
+
+-- the use that both channels declare (19), by itself
+unfoldable pub declared_checked : List ℕ → Answer (Unit {0})
+declared_checked side = provided (finds_none 19 (undeclared side) 0 2 ∷ []) (accepted tt)

@@ -2,64 +2,41 @@
 // 27, and separated from it.
 #![tactic(auto)]
 
-ghost use Rattle.std.specs.Prelude.{◌≡◌, true, ◌+◌, ◌*◌, ◌/◌, ◌%◌, ◌^◌, ◌<◌, ◌≤◌, pos, length, get_or};
-ghost use Rattle.std.specs.Int.Signed.{mag};
+ghost use Rattle.std.specs.Prelude.{◌≡◌, true, ◌&&◌, ltb, ◌+◌, ◌*◌, ◌/◌, ◌%◌, ◌^◌, ◌<◌, ◌≤◌, Some, None, pos, length, get_or};
 ghost use Rattle.bits.specs.Pick.{first};
-ghost use Rattle.answer.specs.Answer.{Answer.accepted, verdict, after, rewritten};
-ghost use Rattle.answer.specs.Demand.{provided};
-ghost use Rattle.answer.specs.Said.{verdict_said};
+ghost use Rattle.answer.specs.Answer.{verdict, after, rewritten};
+ghost use Rattle.answer.specs.Said.{said};
 ghost use Rattle.subframe.specs.Signed.{in_range, code_of, signed_of};
-ghost use Rattle.block.specs.Side.{side_length};
-ghost use Rattle.talkback.specs.Talkback.{auxiliary, main, sample_with, voice_with, subframe_with, with_voice, program_of, voice_of, undeclared, use_demands, voice_join_answer, separate_answer};
-ghost use Rattle.talkback.specs.Inner.{fitting, unfitting, Raises, Unites, Programs, AllIn, frame_set, three_set};
+ghost use Rattle.talkback.specs.Talkback.{auxiliary, main, sample_with, voice_with, with_voice, program_of, voice_of, undeclared, voice_join_answer, separate_answer};
+ghost use Rattle.talkback.specs.Inner.{unfitting, Raises, Unites, Programs, AllIn, declared_checked, frame_set, three_set};
 
-use answer::Verdict;
+use answer::Refusal;
 use block::{C, COLUMN, COLUMNS, SIDE};
 
-// How many codes 24 bits have, and 12; the sign has half of that weight.
-const CODES: u32 = 0x100_0000;
+// How many subframes a block has, and how many voice samples.
+const SUBFRAMES: usize = 384;
 
-const SIGNED_CODES: i32 = 0x100_0000;
+const VOICES: usize = 128;
 
-const HALF: u32 = 0x80_0000;
-
+// How many codes 12 bits have; the sign has half of that weight.
 const VOICE_CODES: i32 = 0x1000;
 
 const VOICE_HALF: u32 = 0x800;
+
+// Half of the codes that 24 bits have.
+const HALF: u32 = 0x80_0000;
 
 // How many states slots 4 to 7 have.
 const STATES: u32 = 16;
 
 // ---- one sample
 
-// What is below the sign: n for n and for -(n + 1).
-fn magnitude(sample: i32) -> u32
-    ensures { result ≡ mag sample }
-{
-    if sample < 0 {
-        (-1 - sample) as u32
-    } else {
-        sample as u32
-    }
-}
-
-// The 24 bits of a sample.
-fn code(sample: i32) -> u32
+// What is in slots 4 to 7 of a sample.
+fn auxiliary(sample: i32) -> u32
     requires { in_range 24 sample ≡ true }
-    ensures { result ≡ code_of 24 sample }
+    ensures { result ≡ auxiliary sample }
 {
-    ((sample + SIGNED_CODES) as u32) % CODES
-}
-
-// Whether a sample is in the range that ends at `half`, with less than `free` in slots 4 to 7.
-fn is_fitting(sample: i32, half: u32, free: u32) -> bool
-    requires { half ≤ 2 ^ 23 }
-    ensures { result ≡ fitting half free sample }
-{
-    if half <= magnitude(sample) {
-        return false;
-    }
-    code(sample) % STATES < free
+    sample.cast_unsigned() % STATES
 }
 
 // A sample without what is in slots 4 to 7.
@@ -67,7 +44,7 @@ fn cleared(sample: i32) -> i32
     requires { in_range 24 sample ≡ true }
     ensures { result ≡ sample_with (main sample) 0 }
 {
-    sample - (code(sample) % STATES) as i32
+    sample - auxiliary(sample) as i32
 }
 
 // The voice sample of 12 bits.
@@ -84,132 +61,101 @@ fn signed(code: u32) -> i32
 
 // ---- what is refused
 
-// A sample moved up by half its range, in 32 bits: below the whole range exactly if the sample is in it, and slots 4 to 7
-// stay.
-fn raised(sample: i32, half: u32) -> u32
-    requires { (half ≤ 2 ^ 23) × (half % 2 ^ 4 ≡ 0) }
-    ensures { Raises half sample result }
-{
-    let moved = (sample as i64 + (0x1_0000_0000 + half as i64)) as u64;
-    (moved % 0x1_0000_0000) as u32
+// What samples must fit: the range that ends at `half`, with less than `free` in slots 4 to 7.
+#[derive(Clone, Copy)]
+struct Fit {
+    half: u32,
+    free: u32,
+    ghost whole: { (half ≤ 2 ^ 23) × (half % 2 ^ 4 ≡ 0) },
 }
 
-// The bits that are 1 in some raised sample: one pass with no branch on a sample, so that several are taken at once.
-fn united(samples: &[i32], half: u32) -> u32
-    requires { (half ≤ 2 ^ 23) × (half % 2 ^ 4 ≡ 0) }
-    ensures { Unites half samples.now (length samples.now) result }
-{
-    let mut all: u32 = 0;
-    let mut i: usize = 0;
-    while i < samples.len() {
-        let x = samples[i];
-        all = all | raised(x, half);
-        i += 1;
-    }
-    all
-}
+const PROGRAM: Fit = Fit {
+    half: HALF,
+    free: 1,
+};
 
-// The first sample that does not fit, or the number of samples: searched only where the bits of all together do not fit.
-fn first_unfitting(samples: &[i32], half: u32, free: u32) -> usize
-    requires { (half ≤ 2 ^ 23) × (half % 2 ^ 4 ≡ 0) }
-    ensures { result ≡ first (unfitting half free samples.now) 0 (length samples.now) (λ i. i) (length samples.now) }
-{
-    let all = united(samples, half);
-    if all < 2 * half {
-        if all % STATES < free {
-            return samples.len();
-        }
+const VOICE: Fit = Fit {
+    half: VOICE_HALF,
+    free: STATES,
+};
+
+const JOINED: Fit = Fit {
+    half: HALF,
+    free: STATES,
+};
+
+impl Fit {
+    // A sample moved up by half its range, in 32 bits: below the whole range exactly if the sample is in it, and slots 4
+    // to 7 stay.
+    fn raised(self, sample: i32) -> u32
+        ensures { Raises self.half sample result }
+    {
+        let moved = (i64::from(sample) + (0x1_0000_0000 + i64::from(self.half))) as u64;
+        (moved % 0x1_0000_0000) as u32
     }
-    let mut i: usize = 0;
-    while i < samples.len() {
-        let x = samples[i];
-        if is_fitting(x, half, free) {
-            i += 1;
-        } else {
-            return i;
+
+    // The bits that are 1 in some raised sample: one pass with no branch on a sample, so that several are taken at once.
+    fn united(self, samples: &[i32]) -> u32
+        ensures { Unites self.half samples.now (length samples.now) result }
+    {
+        let mut all: u32 = 0;
+        for x in samples {
+            all |= self.raised(*x);
         }
+        all
     }
-    i
+
+    // Whether a raised sample fits; where the bits of several together do, each does.
+    fn admits(self, raised: u32) -> bool
+        ensures { result ≡ (ltb raised (2 * self.half) && ltb (raised % 2 ^ 4) self.free) }
+    {
+        raised < 2 * self.half && raised % STATES < self.free
+    }
+
+    // The first sample that does not fit: searched only where the bits of all together do not.
+    fn first_unfitting(self, samples: &[i32]) -> Option<usize>
+        ensures { result ≡ first (unfitting self.half self.free samples.now) 0 (length samples.now) (λ i. Some i) None }
+    {
+        if self.admits(self.united(samples)) {
+            return None;
+        }
+        for (i, x) in samples.iter().enumerate() {
+            if !self.admits(self.raised(*x)) {
+                return Some(i);
+            }
+        }
+        None
+    }
 }
 
 // Whether byte 2 bits 2, 1, 0 of a channel's status are not 0, 1, 0.
-fn is_undeclared(side: &[u8], channel: usize) -> bool
-    requires { (length side.now ≡ side_length) × (channel < 2) }
+fn is_undeclared(side: &[u8; SIDE], channel: usize) -> bool
+    requires { channel < 2 }
     ensures { result ≡ undeclared side.now channel }
 {
     side[COLUMN * (COLUMNS * channel + C) + 2] % 8 != 2
 }
 
-// Refusals 1 and 19.
-fn check_use(program: usize, voice: usize, side: &[u8], samples: usize) -> Verdict
-    ensures { verdict_said result ≡ provided (use_demands program voice side.now samples) (accepted tt) }
+// Refusal 19.
+fn check_declared(side: &[u8; SIDE]) -> Result<(), Refusal>
+    ensures { said result ≡ declared_checked side.now }
 {
-    if program != 384 {
-        return Verdict::Refused {
-            number: 1,
-            place: 0,
-        };
+    for channel in 0..2 {
+        if is_undeclared(side, channel) {
+            return Err(Refusal::Undeclared(channel as u32));
+        }
     }
-    if voice != 128 {
-        return Verdict::Refused {
-            number: 1,
-            place: 0,
-        };
-    }
-    if side.len() != SIDE {
-        return Verdict::Refused {
-            number: 1,
-            place: 0,
-        };
-    }
-    if samples != 384 {
-        return Verdict::Refused {
-            number: 1,
-            place: 0,
-        };
-    }
-    if is_undeclared(side, 0) {
-        return Verdict::Refused {
-            number: 19,
-            place: 0,
-        };
-    }
-    if is_undeclared(side, 1) {
-        return Verdict::Refused {
-            number: 19,
-            place: 1,
-        };
-    }
-    Verdict::Accepted
+    Ok(())
 }
 
 // ---- joining
-
-// The 32 bits of a sample.
-fn code_32(sample: i32) -> u64
-    ensures { (result ≡ code_of 32 sample) × (result < 2 ^ 32) }
-{
-    (sample as i64 + 0x1_0000_0000) as u64 % 0x1_0000_0000
-}
-
-// The sample of 32 bits.
-fn signed_32(w: u64) -> i32
-    requires { w < 2 ^ 32 }
-    ensures { result ≡ signed_of 32 w }
-{
-    if w < 0x8000_0000 {
-        w as i32
-    } else {
-        (w as i64 - 0x1_0000_0000) as i32
-    }
-}
 
 // Two samples side by side, the first below, as they lie in memory: one load and one store serve both.
 fn pair(a: i32, b: i32) -> u64
     ensures { result ≡ code_of 32 a + code_of 32 b * 2 ^ 32 }
 {
-    let low = code_32(a);
-    let high = code_32(b);
+    let low = u64::from(a.cast_unsigned());
+    let high = u64::from(b.cast_unsigned());
     low + high * 0x1_0000_0000
 }
 
@@ -220,127 +166,145 @@ fn low_fours(pair: u64) -> u64
     pair & 0xF_0000_000F
 }
 
-// A frame, from subframe i on: the program samples of A and B with two parts, side by side, in slots 4 to 7.
-fn join_frame(program: &[i32], parts: u64, i: usize, samples: &mut [i32])
-    requires { (Programs program.now) × (length program.now ≡ 384) × (length samples.old ≡ 384) × (parts % 2 ^ 32 < 2 ^ 4) × (parts / 2 ^ 32 < 2 ^ 4) × (i + 1 < 384) }
-    ensures { samples.new ≡ frame_set program.now (parts % 2 ^ 32) (parts / 2 ^ 32) i samples.old }
-{
-    let a = program[i];
-    let b = program[i + 1];
-    let both = pair(a, b) + parts;
-    let x = signed_32(both % 0x1_0000_0000);
-    let y = signed_32(both / 0x1_0000_0000);
-    samples[i] = x;
-    samples[i + 1] = y;
+// Program samples: in range, and with nothing in slots 4 to 7.
+#[derive(Clone, Copy)]
+struct Program<'a> {
+    samples: &'a [i32; SUBFRAMES],
+    ghost fits: { Programs samples.now },
 }
 
-// Three frames, from subframe i on, with the voice samples for A and for B side by side, the lowest four bits in the first.
-fn join_three(program: &[i32], voices: u64, i: usize, samples: &mut [i32])
-    requires { (Programs program.now) × (length program.now ≡ 384) × (length samples.old ≡ 384) × (i + 5 < 384) }
-    ensures { samples.new ≡ three_set program.now (voices % 2 ^ 32) (voices / 2 ^ 32) i samples.old }
-{
-    join_frame(program, low_fours(voices), i, samples);
-    join_frame(program, low_fours(voices / 16), i + 2, samples);
-    join_frame(program, low_fours(voices / 256), i + 4, samples);
-}
+impl Program<'_> {
+    // A frame, from subframe i on: the program samples of A and B with two parts, side by side, in slots 4 to 7.
+    fn join_frame(self, parts: u64, i: usize, samples: &mut [i32; SUBFRAMES])
+        requires { (parts % 2 ^ 32 < 2 ^ 4) × (parts / 2 ^ 32 < 2 ^ 4) × (i + 1 < 384) }
+        ensures { samples.new ≡ frame_set self.entry.samples.now (parts % 2 ^ 32) (parts / 2 ^ 32) i samples.old }
+    {
+        let both = pair(self.samples[i], self.samples[i + 1]) + parts;
+        samples[i] = ((both % 0x1_0000_0000) as u32).cast_signed();
+        samples[i + 1] = ((both / 0x1_0000_0000) as u32).cast_signed();
+    }
 
-fn join_block(program: &[i32], voice: &[i32], samples: &mut [i32])
-    requires { (Programs program.now) × (AllIn 12 128 voice.now) × (length program.now ≡ 384) × (length voice.now ≡ 128) × (length samples.old ≡ 384) }
-    ensures { samples.new ≡ with_voice program.now voice.now }
-{
-    let mut k: usize = 0;
-    while k < 64 {
-        let a = voice[2 * k];
-        let b = voice[2 * k + 1];
-        join_three(program, pair(a, b), 6 * k, samples);
-        k += 1;
+    // Three frames, from subframe i on, with the voice samples for A and for B side by side, the lowest four bits in the
+    // first.
+    fn join_three(self, voices: u64, i: usize, samples: &mut [i32; SUBFRAMES])
+        requires { i + 5 < 384 }
+        ensures { samples.new ≡ three_set self.entry.samples.now (voices % 2 ^ 32) (voices / 2 ^ 32) i samples.old }
+    {
+        self.join_frame(low_fours(voices), i, samples);
+        self.join_frame(low_fours(voices / 16), i + 2, samples);
+        self.join_frame(low_fours(voices / 256), i + 4, samples);
+    }
+
+    // All of them, with the voice.
+    fn join_block(self, voice: &[i32; VOICES], samples: &mut [i32; SUBFRAMES])
+        requires { AllIn 12 128 voice.now }
+        ensures { samples.new ≡ with_voice self.entry.samples.now voice.now }
+    {
+        // an index: a turn takes two samples that stand side by side
+        for k in 0..VOICES / 2 {
+            let voices = pair(voice[2 * k], voice[2 * k + 1]);
+            self.join_three(voices, 6 * k, samples);
+        }
     }
 }
 
 // Joins program and voice in a block whose status declares it. A refusal leaves the samples as they were.
-pub fn join(program: &[i32], voice: &[i32], side: &[u8], samples: &mut [i32]) -> Verdict
-    ensures result_value { verdict_said result ≡ verdict (voice_join_answer program.now voice.now side.now (length samples.old)) }
+pub fn join(program: &[i32], voice: &[i32], side: &[u8], samples: &mut [i32]) -> Result<(), Refusal>
+    ensures result_value { said result ≡ verdict (voice_join_answer program.now voice.now side.now (length samples.old)) }
     ensures samples_after { samples.new ≡ rewritten (voice_join_answer program.now voice.now side.now (length samples.old)) samples.old }
 {
-    let found = check_use(program.len(), voice.len(), side, samples.len());
-    if let Verdict::Refused { number, place } = found {
-        return Verdict::Refused { number, place };
+    let Some(program) = program.as_array() else {
+        return Err(Refusal::Length);
+    };
+    let Some(voice) = voice.as_array() else {
+        return Err(Refusal::Length);
+    };
+    let Some(side) = side.as_array() else {
+        return Err(Refusal::Length);
+    };
+    let Some(samples) = samples.as_mut_array() else {
+        return Err(Refusal::Length);
+    };
+    check_declared(side)?;
+    if let Some(i) = PROGRAM.first_unfitting(program) {
+        return Err(Refusal::Sample(i as u32));
     }
-    let i = first_unfitting(program, HALF, 1);
-    if i < 384 {
-        return Verdict::Refused {
-            number: 3,
-            place: i as u32,
-        };
+    if let Some(k) = VOICE.first_unfitting(voice) {
+        return Err(Refusal::Sample(384 + k as u32));
     }
-    let k = first_unfitting(voice, VOICE_HALF, STATES);
-    if k < 128 {
-        return Verdict::Refused {
-            number: 3,
-            place: 384 + k as u32,
-        };
-    }
-    join_block(program, voice, samples);
-    Verdict::Accepted
+    let program = Program { samples: program };
+    program.join_block(voice, samples);
+    Ok(())
 }
 
 // ---- separating
 
-// The program samples of a block.
-fn separate_program(samples: &[i32], program: &mut [i32])
-    requires { (AllIn 24 384 samples.now) × (length samples.now ≡ 384) × (length program.old ≡ 384) }
-    ensures { program.new ≡ program_of samples.now }
-{
-    let mut i: usize = 0;
-    while i < 384 {
-        let x = cleared(samples[i]);
-        program[i] = x;
-        i += 1;
+// The samples of a block, each in range.
+#[derive(Clone, Copy)]
+struct Joined<'a> {
+    samples: &'a [i32; SUBFRAMES],
+    ghost ranges: { AllIn 24 384 samples.now },
+}
+
+impl Joined<'_> {
+    // The program samples.
+    fn separate_program(self, program: &mut [i32])
+        requires { length program.old ≡ 384 }
+        ensures { program.new ≡ program_of self.entry.samples.now }
+    {
+        for (i, x) in program.iter_mut().enumerate() {
+            *x = cleared(self.samples[i]);
+        }
     }
-}
 
-// The voice sample in three frames of a channel, from subframe i on.
-fn voice_at(samples: &[i32], i: usize) -> i32
-    requires { (AllIn 24 384 samples.now) × (length samples.now ≡ 384) × (i + 4 < 384) }
-    ensures { result ≡ voice_with (λ part. auxiliary (get_or samples.now (i + 2 * part) (pos 0))) }
-{
-    let a = code(samples[i]) % STATES;
-    let b = code(samples[i + 2]) % STATES;
-    let c = code(samples[i + 4]) % STATES;
-    signed(a + b * 16 + c * 256)
-}
+    // The voice sample in three frames of a channel, from subframe i on.
+    fn voice_at(self, i: usize) -> i32
+        requires { i + 4 < 384 }
+        ensures { result ≡ voice_with (λ part. auxiliary (get_or self.entry.samples.now (i + 2 * part) (pos 0))) }
+    {
+        let a = auxiliary(self.samples[i]);
+        let b = auxiliary(self.samples[i + 2]);
+        let c = auxiliary(self.samples[i + 4]);
+        signed(a + b * 16 + c * 256)
+    }
 
-// The voice samples of a block.
-fn separate_voice(samples: &[i32], voice: &mut [i32])
-    requires { (AllIn 24 384 samples.now) × (length samples.now ≡ 384) × (length voice.old ≡ 128) }
-    ensures { voice.new ≡ voice_of samples.now }
-{
-    let mut k: usize = 0;
-    while k < 128 {
-        let x = voice_at(samples, 6 * (k / 2) + k % 2);
-        voice[k] = x;
-        k += 1;
+    // The voice samples.
+    fn separate_voice(self, voice: &mut [i32])
+        requires { length voice.old ≡ 128 }
+        ensures { voice.new ≡ voice_of self.entry.samples.now }
+    {
+        for (k, x) in voice.iter_mut().enumerate() {
+            *x = self.voice_at(6 * (k / 2) + k % 2);
+        }
     }
 }
 
 // Separates a block whose status declares it into program and voice. A refusal leaves both buffers as they were.
-pub fn separate(samples: &[i32], side: &[u8], program: &mut [i32], voice: &mut [i32]) -> Verdict
-    ensures result_value { verdict_said result ≡ verdict (separate_answer samples.now side.now (length program.old) (length voice.old)) }
+pub fn separate(
+    samples: &[i32],
+    side: &[u8],
+    program: &mut [i32],
+    voice: &mut [i32],
+) -> Result<(), Refusal>
+    ensures result_value { said result ≡ verdict (separate_answer samples.now side.now (length program.old) (length voice.old)) }
     ensures program_after { program.new ≡ after program_of (separate_answer samples.now side.now (length program.old) (length voice.old)) program.old }
     ensures voice_after { voice.new ≡ after voice_of (separate_answer samples.now side.now (length program.old) (length voice.old)) voice.old }
 {
-    let found = check_use(program.len(), voice.len(), side, samples.len());
-    if let Verdict::Refused { number, place } = found {
-        return Verdict::Refused { number, place };
+    if program.len() != SUBFRAMES || voice.len() != VOICES {
+        return Err(Refusal::Length);
     }
-    let i = first_unfitting(samples, HALF, STATES);
-    if i < 384 {
-        return Verdict::Refused {
-            number: 3,
-            place: i as u32,
-        };
+    let Some(side) = side.as_array() else {
+        return Err(Refusal::Length);
+    };
+    let Some(samples) = samples.as_array() else {
+        return Err(Refusal::Length);
+    };
+    check_declared(side)?;
+    if let Some(i) = JOINED.first_unfitting(samples) {
+        return Err(Refusal::Sample(i as u32));
     }
-    separate_program(samples, program);
-    separate_voice(samples, voice);
-    Verdict::Accepted
+    let joined = Joined { samples };
+    joined.separate_program(program);
+    joined.separate_voice(voice);
+    Ok(())
 }

@@ -1,5 +1,5 @@
 // AES3: blocks written and read, with symbols changed and bodies made odd; tables with E set.
-use crate::{end, flip, number, refusal, show, sum};
+use crate::{accepted, end, flip, number, pair, refused, show, sum};
 
 // A side table that is 0 but for bytes 0 and 23 of both statuses.
 fn table(a: u8, crcc_a: u8, b: u8, crcc_b: u8) -> [u8; 192] {
@@ -20,11 +20,11 @@ fn write(samples: &[i32], side: &[u8], level: u32, line: &mut [u8]) {
 
 fn read_into(line: &[u8], samples: &mut [i32], side: &mut [u8]) {
     match aes3_read::read_block(line, samples, side) {
-        aes3_read::ReadAnswer::Read { crcc_a, crcc_b } => {
-            refusal(0, 0);
-            refusal(crcc_a, crcc_b);
+        Ok(right) => {
+            accepted();
+            pair(right.a as u32, right.b as u32);
         }
-        aes3_read::ReadAnswer::Refused { number: n, place } => refusal(n, place),
+        Err(refusal) => refused(refusal),
     }
     number(sum(side));
 }
@@ -74,32 +74,26 @@ fn place(k: usize) -> usize {
 }
 
 fn damage(line: &mut [u8]) {
-    let mut k: usize = 0;
-    while k < 1152 {
+    for k in 0..1152 {
         flip(line, place(k));
         read(line);
         flip(line, place(k));
-        k += 1;
     }
 }
 
 // Every symbol from one on turned over.
 fn turn(line: &mut [u8], symbol: usize) {
-    let mut k: usize = symbol;
-    while k < 24576 {
+    for k in symbol..24576 {
         flip(line, k);
-        k += 1;
     }
 }
 
 // From the last symbol of each sixteenth subframe on the line turns over: the body there is odd, and stays so as the
 // next ones come.
 fn faults(line: &mut [u8]) {
-    let mut k: usize = 0;
-    while k < 24 {
+    for k in 0..24 {
         turn(line, k * 1024 + 63);
         read(line);
-        k += 1;
     }
 }
 

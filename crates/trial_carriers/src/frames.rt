@@ -1,5 +1,7 @@
 // MADI: the published example, the most commands and one too many, no active channel, and each symbol changed.
-use crate::{end, flip, number, refusal, show, sum, wide, wide8};
+ghost use Rattle.std.specs.Prelude.{◌≤◌};
+
+use crate::{accepted, end, flip, number, pair, refused, show, sum};
 
 // The first n of a list of commands: command 0 first, and some others among more of it.
 fn write_frame(channels: u32, words: &[u32], n: isize, level: u32, line: &mut [u8]) {
@@ -23,39 +25,26 @@ fn frame_into(
     commands: &mut [u8],
 ) {
     match madi_read::read_frame(channels, level, bits, line, words, commands) {
-        madi_read::ReadAnswer::Read {
-            active,
-            commands: came,
-        } => {
-            refusal(0, 0);
-            refusal(active, came);
+        Ok(counts) => {
+            accepted();
+            pair(counts.active, counts.commands);
         }
-        madi_read::ReadAnswer::Refused { number: n, place } => refusal(n, place),
+        Err(refusal) => refused(refusal),
     }
 }
 
-fn read_56(level: u32, bits: u32, line: &[u8]) {
-    let mut words = [7u32; 56];
+// Reads a frame of N channels.
+fn read_frame<const N: usize>(level: u32, bits: u32, line: &[u8])
+    requires { (1 ≤ N) × (N ≤ 64) }
+{
+    let mut words = [7u32; N];
     let mut commands = [9u8; 255];
     io::write_all(1, b"units");
-    frame_into(56, level, bits, line, &mut words, &mut commands);
-    number(wide(words[0]));
-    number(wide(words[55]));
-    number(wide8(commands[1]));
-    number(wide8(commands[2]));
-    number(sum(&commands));
-    end();
-}
-
-fn read_64(level: u32, bits: u32, line: &[u8]) {
-    let mut words = [7u32; 64];
-    let mut commands = [9u8; 255];
-    io::write_all(1, b"units");
-    frame_into(64, level, bits, line, &mut words, &mut commands);
-    number(wide(words[0]));
-    number(wide(words[63]));
-    number(wide8(commands[1]));
-    number(wide8(commands[2]));
+    frame_into(N as u32, level, bits, line, &mut words, &mut commands);
+    number(u64::from(words[0]));
+    number(u64::from(words[N - 1]));
+    number(u64::from(commands[1]));
+    number(u64::from(commands[2]));
     number(sum(&commands));
     end();
 }
@@ -66,11 +55,11 @@ pub(crate) fn annex() {
     let mut line = [5u8; 640];
     write_frame(56, &words, 1, 0, &mut line);
     io::write_all(1, b"annex");
-    number(wide8(line[0]));
-    number(wide8(line[1]));
-    number(wide8(line[2]));
-    number(wide8(line[3]));
-    number(wide8(line[4]));
+    number(u64::from(line[0]));
+    number(u64::from(line[1]));
+    number(u64::from(line[2]));
+    number(u64::from(line[3]));
+    number(u64::from(line[4]));
     end();
 }
 
@@ -79,7 +68,7 @@ pub(crate) fn most() {
     let words = [0u32; 64];
     let mut line = [5u8; 639];
     write_frame(64, &words, 255, 1, &mut line);
-    read_64(1, 5110, &line);
+    read_frame::<64>(1, 5110, &line);
     write_frame(64, &words, 256, 1, &mut line);
     write_frame(64, &words[..0], 1, 1, &mut line);
 }
@@ -91,9 +80,9 @@ pub(crate) fn too_many() {
     write_frame(56, &words, 255, 0, &mut line);
     line[598] = line[593];
     line[599] = line[594];
-    read_56(0, 4800, &line);
+    read_frame::<56>(0, 4800, &line);
     let none = [0u8; 1];
-    read_56(0, 0, &none[..0]);
+    read_frame::<56>(0, 0, &none[..0]);
 }
 
 // Channel 0 sent after level 1 with both its marks leaves level 0, so that with its first group as 0000 after level 0
@@ -103,16 +92,14 @@ pub(crate) fn none_active() {
     let mut line = [5u8; 282];
     write_frame(56, &words, 1, 1, &mut line);
     line[0] = line[0] % 8 + 0xa0;
-    read_56(0, 2250, &line);
+    read_frame::<56>(0, 2250, &line);
 }
 
 fn symbols(line: &mut [u8]) {
-    let mut k: usize = 0;
-    while k < 2250 {
+    for k in 0..2250 {
         flip(line, k);
-        read_56(0, 2250, line);
+        read_frame::<56>(0, 2250, line);
         flip(line, k);
-        k += 1;
     }
 }
 
@@ -123,5 +110,5 @@ pub(crate) fn frames() {
     write_frame(56, &words, 1, 0, &mut line);
     symbols(&mut line);
     flip(&mut line, 2255);
-    read_56(0, 2250, &line);
+    read_frame::<56>(0, 2250, &line);
 }

@@ -1,5 +1,5 @@
 // The hunt and its count: a start behind an octet, and each of its symbols changed.
-use crate::{end, flip, number, show_number, wide};
+use crate::{end, flip, number, show_number};
 
 fn find(line: &[u8]) {
     io::write_all(1, b"find");
@@ -7,17 +7,15 @@ fn find(line: &[u8]) {
     let compared = r.compared;
     let start = r.start;
     show_number(start);
-    number(wide(compared));
+    number(u64::from(compared));
     end();
 }
 
 fn starts(line: [u8; 18]) {
-    let mut k: usize = 0;
-    while k < 144 {
+    for k in 0..144 {
         let mut l = line;
         flip(&mut l, k);
         find(&l);
-        k += 1;
     }
 }
 

@@ -8,7 +8,7 @@ mod frames;
 mod hunts;
 mod packets;
 
-use answer::{NumberAnswer, Verdict};
+use answer::Refusal;
 
 fn number(n: u64) {
     io::write_all(1, b" ");
@@ -19,38 +19,35 @@ fn end() {
     io::write_all(1, b"\n");
 }
 
-fn wide(x: u32) -> u64 {
-    x as u64
+fn pair(a: u32, b: u32) {
+    number(u64::from(a));
+    number(u64::from(b));
 }
 
-fn wide8(x: u8) -> u64 {
-    x as u64
+// Document 01's number and place.
+fn refused(refusal: Refusal) {
+    pair(refusal.number(), refusal.place());
 }
 
-fn wide16(x: u16) -> u64 {
-    x as u64
+fn accepted() {
+    pair(0, 0);
 }
 
-fn refusal(n: u32, place: u32) {
-    number(wide(n));
-    number(wide(place));
-}
-
-fn show(v: Verdict) {
-    match v {
-        Verdict::Accepted => refusal(0, 0),
-        Verdict::Refused { number: n, place } => refusal(n, place),
+fn show(answer: Result<(), Refusal>) {
+    match answer {
+        Ok(()) => accepted(),
+        Err(refusal) => refused(refusal),
     }
 }
 
-fn show_number(a: NumberAnswer) {
-    match a {
-        NumberAnswer::Number(x) => {
-            refusal(0, 0);
-            number(wide(x));
+fn show_number(answer: Result<u32, Refusal>) {
+    match answer {
+        Ok(x) => {
+            accepted();
+            number(u64::from(x));
         }
-        NumberAnswer::Refused { number: n, place } => {
-            refusal(n, place);
+        Err(refusal) => {
+            refused(refusal);
             number(0);
         }
     }
@@ -70,22 +67,10 @@ fn with(h: u64, x: u64) -> u64 {
     (h % 65536 * 31 + x % 65536) % 65536
 }
 
-fn sum(octets: &[u8]) -> u64 {
+fn sum<T: Copy + Into<u64>>(xs: &[T]) -> u64 {
     let mut h: u64 = 0;
-    let mut i: usize = 0;
-    while i < octets.len() {
-        h = with(h, wide8(octets[i]));
-        i += 1;
-    }
-    h
-}
-
-fn sum_packet(words: &[u16]) -> u64 {
-    let mut h: u64 = 0;
-    let mut i: usize = 0;
-    while i < words.len() {
-        h = with(h, wide16(words[i]));
-        i += 1;
+    for x in xs {
+        h = with(h, (*x).into());
     }
     h
 }
@@ -109,7 +94,7 @@ fn seal(status: [u8; 24]) {
     let mut s = status;
     io::write_all(1, b"seal");
     show(codes::seal(&mut s));
-    number(wide8(s[23]));
+    number(u64::from(s[23]));
     end();
 }
 

@@ -1,5 +1,5 @@
 // HD packets: written, read and repaired, each bit of each word changed in its turn.
-use crate::{end, number, refusal, show, show_number, sum_packet, wide16};
+use crate::{accepted, end, number, pair, refused, show, show_number, sum};
 use hd_packet::Fields;
 
 fn packet(bodies: [u32; 4]) -> [u16; 31] {
@@ -15,7 +15,7 @@ fn packet(bodies: [u32; 4]) -> [u16; 31] {
     };
     io::write_all(1, b"packet");
     show(hd_write::write_packet(f, &b, &mut words));
-    number(sum_packet(&words));
+    number(sum(&words));
     end();
     words
 }
@@ -24,16 +24,16 @@ fn read_words(words: &[u16]) {
     let mut bodies = [7u32; 4];
     io::write_all(1, b"fields");
     match hd_read::read_packet(words, &mut bodies) {
-        hd_read::ReadAnswer::Read(f) => {
-            refusal(0, 0);
-            refusal(f.group, f.dbn);
-            refusal(f.phase, f.ck12);
-            refusal(f.z1, f.z2);
+        Ok(f) => {
+            accepted();
+            pair(f.group, f.dbn);
+            pair(f.phase, f.ck12);
+            pair(f.z1, f.z2);
         }
-        hd_read::ReadAnswer::Refused { number: n, place } => refusal(n, place),
+        Err(refusal) => refused(refusal),
     }
-    refusal(bodies[0], bodies[1]);
-    refusal(bodies[2], bodies[3]);
+    pair(bodies[0], bodies[1]);
+    pair(bodies[2], bodies[3]);
     end();
 }
 
@@ -41,7 +41,7 @@ fn repair(words: &[u16]) {
     let mut out = [9u16; 31];
     io::write_all(1, b"repair");
     show_number(hd_repair::repair_packet(words, &mut out));
-    number(sum_packet(&out));
+    number(sum(&out));
     end();
 }
 
@@ -55,10 +55,8 @@ fn change(words: [u16; 31], c: usize) {
 }
 
 fn changes(words: [u16; 31]) {
-    let mut c: usize = 0;
-    while c < 496 {
+    for c in 0..496 {
         change(words, c);
-        c += 1;
     }
 }
 
@@ -72,10 +70,10 @@ fn next(dbn: u32) {
 pub(crate) fn packets() {
     let words = packet([0x8000_0010, 0, 0x9000_0000, 0]);
     io::write_all(1, b"channel");
-    number(wide16(words[8]));
-    number(wide16(words[9]));
-    number(wide16(words[10]));
-    number(wide16(words[11]));
+    number(u64::from(words[8]));
+    number(u64::from(words[9]));
+    number(u64::from(words[10]));
+    number(u64::from(words[11]));
     end();
     read_words(&words);
     repair(&words);

@@ -3,24 +3,17 @@
 // prints.
 #![tactic(auto)]
 
-ghost use Rattle.std.specs.Prelude.{◌≤◌};
-
-fn least(a: usize, b: usize) -> usize
-    ensures { result ≤ a }
-{
-    if a < b { a } else { b }
-}
-
 fn run(input: &[u8]) {
     let mut out = [0u8; 128];
     let start = report::begin(&mut out);
     io::write_all(1, &out[start..]);
     let mut n: u64 = 0;
     let mut at: usize = 0;
+    // no index: what is printed says whether there is another turn
     loop {
-        let body = at + least(input.len() - at, 4);
+        let body = at + (input.len() - at).min(4);
         let size = records::body_size(&input[at..body]);
-        let end = body + least(input.len() - body, size);
+        let end = body + size.min(input.len() - body);
         let step = report::print(n, &input[at..body], &input[body..end], &mut out);
         let from = step.from;
         io::write_all(1, &out[from..]);

@@ -2,7 +2,6 @@
 use mathlib.Core.Path.{refl, sym, ◌∙◌}
 use Prim.Native.Nat.{◌+◌, ◌*◌}
 use native.Mathlib.Omega.{arith}
-use borrow.Author.Rules.{rules}
 use borrow.Author.Tests.{eq-eqb, ne_eqb, le-leb, lt-leb}
 use Rattle.bits.proofs.Filling.{over-all}
 use Rattle.answer.specs.Demand.{◌&◌}
@@ -33,21 +32,18 @@ returns-then-line-from c =
     record { result_value = both.0; block_after = both.1 }
 
 pub loop-j-init : goal.loop-j-init
-loop-j-init c = (search rules, search rules, refl)
+loop-j-init c = refl
 
-pub overflow_cast-block : goal.overflow_cast-block
-overflow_cast-block c =
+pub overflow_cast-octet : goal.overflow_cast-octet
+overflow_cast-octet c =
     let a = c.args in
     omega (arith, octet-fits a.line.now (a.position + c.loop-j.j * 8) c.load.ensures)
 
 pub loop-j-preserved : goal.loop-j-preserved
 loop-j-preserved c =
     let l = c.loop-j in
-    let a = c.args in (
-      omega arith,
-      search rules,
-      octet-more a.line.now a.position a.block.now l.j c.if-block-ne3072.false (omega arith) l.invariant.2 c.load.ensures,
-    )
+    let a = c.args in
+    octet-more a.line.now a.position a.block.now l.j c.if-block-ne3072.false (omega arith) l.invariant c.load.ensures
 
 pub returns : goal.returns
 unfolding aligned
@@ -57,5 +53,5 @@ returns c =
     let n = length_from a.line.now a.position in
     let room = c.if-block-ne3072.false in
     let both = shows-acceptance _ _ _ _ _ (eq-eqb _ 3072 room & le-leb _ 8192 c.if-line-gt8192.false & le-leb _ _ c.if-line-from.false & tt) (n ∙ sym room)
-    (l.invariant.2 ∙ over-all l.j (block_from a.line.now a.position) a.block.now (omega (arith, n)) (omega arith)) in
+    (l.invariant ∙ over-all l.j (block_from a.line.now a.position) a.block.now (omega (arith, n)) (omega arith)) in
     record { result_value = both.0; block_after = both.1 }

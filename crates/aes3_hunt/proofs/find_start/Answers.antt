@@ -45,35 +45,35 @@ module _ (c : At-loop-k) where
 
   -- a symbol differs: on with the next candidate
   passed : differs r p k ≡ true → onwards line end (p + 1) ≡ hunted line
-  passed d = sym (first_next (fits r) accepted (refused 17 0) end p (omega arith) (misfit r p k d)) ∙ c.loop-k.invariant.2
+  passed d = sym (first_next (fits r) accepted (refused 17 0) end p (omega arith) (misfit r p k d)) ∙ c.loop-k.invariant.1
 
   passed-count : k < 16 → differs r p k ≡ true → c.loop-k.compared + (k + 1) ≡ total r (p + 1 - 1)
   passed-count h d =
       let place : p + 1 - 1 ≡ p = omega arith in
       let more : total r (p - 1) + (k + 1) ≡ total r p =
-      total-next r p (k + 1) (omega arith) (sym (cost-differs r p k h c.loop-k.invariant.4 d)) in
-      rw place (omega (arith, c.loop-k.invariant.3))
+      total-next r p (k + 1) (omega arith) (sym (cost-differs r p k h c.loop-k.invariant.3 d)) in
+      rw place (omega (arith, c.loop-k.invariant.2))
 
   -- none differed
   none-differed : 16 ≤ k → NoneBefore r p 16
-  none-differed h j l = c.loop-k.invariant.4 j (omega arith)
+  none-differed h j l = c.loop-k.invariant.3 j (omega arith)
 
   found : 16 ≤ k → accepted p ≡ hunted line
-  found h = sym (first-hit (fits r) accepted (refused 17 0) end p (omega arith) (fits-same r p (none-differed h))) ∙ c.loop-k.invariant.2
+  found h = sym (first-hit (fits r) accepted (refused 17 0) end p (omega arith) (fits-same r p (none-differed h))) ∙ c.loop-k.invariant.1
 
   found-count : 16 ≤ k → c.loop-k.compared + 16 ≡ total r p
   found-count h =
       let more : total r (p - 1) + 16 ≡ total r p = total-next r p 16 (omega arith) (sym (cost-same r p (none-differed h))) in
-      omega (arith, c.loop-k.invariant.3)
+      omega (arith, c.loop-k.invariant.2)
 
 pub returns-then-line-gt8192 : goal.returns-then-line-gt8192
-returns-then-line-gt8192 c = c.too_long.ensures ∙ hunt-long c.args.line.now c.if-line-gt8192.true
+returns-then-line-gt8192 c = c.refused.ensures ∙ hunt-long c.args.line.now c.if-line-gt8192.true
 
 pub returns-then-t-lt72 : goal.returns-then-t-lt72
 returns-then-t-lt72 c =
     let s = c.args.line.now in
     let n : length s * 8 - 72 ≡ 0 = omega arith in
-    c.refused.ensures
+    c.refused-then-t-lt72.ensures
     ∙ hunt-ends s 0
     (sym (first-miss (fits (symbols s)) accepted (refused 17 0) (length s * 8 - 71) 1 (omega arith)) ∙ hunt-begins s c.if-line-gt8192.false)
     (rw n (sym (total-none (symbols s))))
@@ -81,34 +81,34 @@ returns-then-t-lt72 c =
 pub next-init : goal.next-init
 next-init c =
     let s = c.args.line.now in
-    (search rules, search rules, hunt-begins s c.if-line-gt8192.false, sym (total-none (symbols s)))
+    (hunt-begins s c.if-line-gt8192.false, sym (total-none (symbols s)))
 
 pub loop-k-init : goal.loop-k-init
 loop-k-init c =
     let n = c.next.invariant in
-    (search rules, search rules, n.2, omega (arith, n.3), λ j l. absurd (omega arith))
+    (search rules, n.0, omega (arith, n.1), λ j l. absurd (omega arith))
 
 pub overflow_add-compared-then-differing-k-eq1 : goal.overflow_add-compared-then-differing-k-eq1
 overflow_add-compared-then-differing-k-eq1 c =
     let a = (goal.at.overflow_add-compared-then-differing-k-eq1 c).At-loop-k in
-    omega (arith, a.loop-k.invariant.3, total-most (r a) (p a - 1), a.next.invariant.1)
+    omega (arith, a.loop-k.invariant.2, total-most (r a) (p a - 1))
 
 pub next-preserved : goal.next-preserved
 next-preserved c =
     let a = (goal.at.next-preserved c).At-loop-k in
     let d = seen-differing (r a) (p a) (k a) (omega arith) (compared-here a) c.if-differing-k-eq1.true in
-    (search rules, search rules, passed a d, passed-count a (omega arith) d)
+    (passed a d, passed-count a (omega arith) d)
 
 pub loop-k-preserved : goal.loop-k-preserved
 loop-k-preserved c =
     let a = (goal.at.loop-k-preserved c).At-loop-k in
     let same = seen_same (r a) (p a) (k a) (omega arith) (compared-here a) c.if-differing-k-eq1.false in
-    (search rules, search rules, a.loop-k.invariant.2, omega (arith, a.loop-k.invariant.3), below_more _ _ a.loop-k.invariant.4 same)
+    (search rules, a.loop-k.invariant.1, omega (arith, a.loop-k.invariant.2), below_more _ _ a.loop-k.invariant.3 same)
 
 pub found-requires : goal.found-requires
 found-requires c =
     let a = (goal.at.found-requires c).At-loop-k in
-    (search rules, omega (arith, a.loop-k.invariant.3, total-most (r a) (p a - 1), a.next.invariant.1))
+    (search rules, omega (arith, a.loop-k.invariant.2, total-most (r a) (p a - 1)))
 
 pub returns-in-next : goal.returns-in-next
 returns-in-next c =
@@ -120,8 +120,8 @@ pub returns : goal.returns
 returns c =
     let n = c.next in
     let s = c.args.line.now in
-    let last : n.p - 1 ≡ length s * 8 - 72 = omega (arith, n.invariant.1) in
+    let last : n.p - 1 ≡ length s * 8 - 72 = omega arith in
     c.refused-2.ensures
     ∙ hunt-ends s n.compared
-    (sym (first-miss (fits (symbols s)) accepted (refused 17 0) (length s * 8 - 71) n.p (omega arith)) ∙ n.invariant.2)
-    (n.invariant.3 ∙ ap (total (symbols s)) last)
+    (sym (first-miss (fits (symbols s)) accepted (refused 17 0) (length s * 8 - 71) n.p (omega arith)) ∙ n.invariant.0)
+    (n.invariant.1 ∙ ap (total (symbols s)) last)

@@ -3,7 +3,7 @@
 -- loop steps p and the count inside the inner one, so the inner invariant says that p is still the outer p. Assumes
 -- nothing.
 use mathlib.Core.Path.{◌≡◌}
-use Prim.Native.Nat.{◌-◌, ◌≤◌}
+use Prim.Native.Nat.{◌-◌}
 use Rattle.bits.specs.Pack.{symbols}
 use Rattle.aes3_hunt.specs.Hunt.{hunted, total}
 use Rattle.aes3_hunt.proofs.Cost.{NoneBefore}
@@ -11,13 +11,7 @@ use Rattle.aes3_hunt.proofs.Turns.{onwards}
 use Rattle.aes3_hunt.proofs.find_start.Given as goal
 
 abbrev pub invariant-loop-k : goal.invariant-loop-k
-invariant-loop-k l = (l.p ≡ l.initial.p) × (l.k ≤ 16) × (onwards l.line l.end l.p ≡ hunted l.line) × (l.compared ≡ total (symbols l.line) (l.p - 1)) × NoneBefore (symbols l.line) l.p l.k
-
-abbrev pub decreases-loop-k : goal.decreases-loop-k
-decreases-loop-k l = 16 - l.k
+invariant-loop-k l = (l.p ≡ l.initial.p) × (onwards l.line l.end l.p ≡ hunted l.line) × (l.compared ≡ total (symbols l.line) (l.p - 1)) × NoneBefore (symbols l.line) l.p l.k
 
 abbrev pub invariant-next : goal.invariant-next
-invariant-next l = (1 ≤ l.p) × (l.p ≤ l.end) × (onwards l.line l.end l.p ≡ hunted l.line) × (l.compared ≡ total (symbols l.line) (l.p - 1))
-
-abbrev pub decreases-next : goal.decreases-next
-decreases-next l = l.end - l.p
+invariant-next l = (onwards l.line l.end l.p ≡ hunted l.line) × (l.compared ≡ total (symbols l.line) (l.p - 1))

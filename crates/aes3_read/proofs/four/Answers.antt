@@ -1,21 +1,14 @@
 -- `aes3_read::four` meets its contract: the table's rule. Assumes nothing.
-use mathlib.Core.Path.{◌≡◌}
+use mathlib.Core.Path.{◌≡◌, ap, ◌∙◌}
+use Prim.Native.Nat.{ℕ}
 use native.Mathlib.Omega.{arith}
-use lib.ListN.{length}
-use Rattle.aes3_read.proofs.HeldTable.{length-helds, held_at, held-lt}
+use lib.ListN.{get_or}
+use Rattle.aes3_read.specs.declared.tables.TheConstants.{HELD}
+use Rattle.aes3_read.proofs.HeldTable.{held_at, held-lt}
 use Rattle.aes3_read.proofs.four.Goals as goal
-
-pub bounds-table-o : goal.bounds-table-o
-bounds-table-o c =
-    let n : length c.args.table.now ≡ 256 = rw c.requires length-helds in
-    omega arith
-
-pub overflow_cast-result-2 : goal.overflow_cast-result-2
-overflow_cast-result-2 c =
-    let a = c.args in
-    omega (arith, held-lt a.table.now c.requires a.o (omega arith))
 
 pub returns : goal.returns
 returns c =
-    let a = c.args in
-    (held_at a.table.now c.requires a.o (omega arith), held-lt a.table.now c.requires a.o (omega arith))
+    let o = c.args.o in
+    let e : c.from-2.result ≡ get_or HELD o 0 = c.from-2.ensures ∙ ap (λ (k : ℕ). get_or HELD k 0) c.from.ensures in
+    (e ∙ held_at o (omega arith), rw e (held-lt o (omega arith)))

@@ -13,18 +13,18 @@ returns-then-w-due_changes c =
     answer-body a.i a.w (omega arith) (opens-at-once a.i a.w (omega arith) e) (changes-at-once a.i a.w (omega arith) e)
     c.read_slots.result c.read_slots.ensures.0
 
-pub returns-then-w-due_octet : goal.returns-then-w-due_octet
-returns-then-w-due_octet c =
+pub returns-then-w-from : goal.returns-then-w-from
+returns-then-w-from c =
     let a = c.args in
-    answer-7 a.i a.w (omega arith) (λ e. c.if-w-due_octet.true (e ∙ sym c.due_octet.ensures))
+    answer-7 a.i a.w (omega arith) (λ e. c.if-w-from.true (e ∙ sym (c.from.ensures ∙ c.due_octet.ensures)))
 
 pub returns-then-w-ne48038396025285290 : goal.returns-then-w-ne48038396025285290
 returns-then-w-ne48038396025285290 c =
     let a = c.args in
-    answer-8 a.i a.w (omega arith) (c.if-w-due_octet.false ∙ c.due_octet.ensures) c.if-w-ne48038396025285290.true
+    answer-8 a.i a.w (omega arith) (c.if-w-from.false ∙ (c.from.ensures ∙ c.due_octet.ensures)) c.if-w-ne48038396025285290.true
 
 pub returns : goal.returns
 returns c =
     let a = c.args in
-    answer-body a.i a.w (omega arith) (c.if-w-due_octet.false ∙ c.due_octet.ensures) c.if-w-ne48038396025285290.false
+    answer-body a.i a.w (omega arith) (c.if-w-from.false ∙ (c.from.ensures ∙ c.due_octet.ensures)) c.if-w-ne48038396025285290.false
     c.read_slots-2.result c.read_slots-2.ensures.0

@@ -16,6 +16,9 @@ overflow_mul-result c = omega (arith, p-lt c)
 pub overflow_add-result : goal.overflow_add-result
 overflow_add-result c = omega (arith, p-lt c)
 
+pub overflow_cast-result : goal.overflow_cast-result
+overflow_cast-result c = omega (arith, p-lt c)
+
 pub returns : goal.returns
 returns c =
     let k = c.args.code in

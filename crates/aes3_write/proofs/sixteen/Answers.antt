@@ -4,5 +4,5 @@ use Rattle.aes3_write.proofs.sixteen.Goals as goal
 
 pub returns : goal.returns
 returns c =
-    sixteen-laid c.args.side.now c.args.j c.requires.2 c.eight_flags-a.result c.eight_flags-b.result
+    sixteen-laid c.args.side.now c.args.j c.requires c.eight_flags-a.result c.eight_flags-b.result
     c.eight_flags-a.ensures.0 c.eight_flags-b.ensures.0

@@ -16,7 +16,7 @@ use Rattle.aes3_write.proofs.slots_word.Goals as goal
 pub inverters_of-v-requires : goal.inverters_of-v-requires
 inverters_of-v-requires c =
     let h = c.three_entries-u.ensures in
-    (c.requires.1, omega (arith, h.together, h.first, h.second, h.third))
+    omega (arith, h.together, h.first, h.second, h.third)
 
 pub overflow_mul-result : goal.overflow_mul-result
 overflow_mul-result c =
@@ -46,6 +46,6 @@ returns c =
     ∙ ap₂ (λ (x y : ℕ). inverters (odd x) (eqb y 1) (odd u)) ua ub ∙ ap (λ (x : ℕ). inverters (odd a) (odd b) (eqb x 1)) ud in
     let w : bit_xor (u * 256 + e.result / 256) c.inverters_of-v.result ≡ big (biphase false (slots (body_with k f))) =
     ap₂ (λ (x y : ℕ). bit_xor (x * 256 + e.result / 256) y) h.together v
-    ∙ word-of-body k f c.requires.2 c.requires.3 c.last_slots.result c.last_slots.ensures.0 a b d e.result refl refl
+    ∙ word-of-body k f c.requires.0 c.requires.1 c.last_slots.result c.last_slots.ensures.0 a b d e.result refl refl
     refl e.ensures.0 in
     (w, rw w (slots-lt (body_with k f)))

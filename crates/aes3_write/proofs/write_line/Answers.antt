@@ -1,10 +1,9 @@
 -- `aes3_write::write_line` meets its contract. The loop's invariant: the octets written, followed by those of the
 -- bodies that are left, are the whole line. Assumes nothing.
 use mathlib.Core.Path.{◌≡◌, refl, ◌∙◌}
-use Prim.Native.Nat.{ℕ, ◌+◌, ◌-◌, ◌*◌, ◌<◌}
+use Prim.Native.Nat.{◌+◌, ◌-◌, ◌*◌, ◌<◌}
 use native.Mathlib.Omega.{arith}
 use borrow.Author.Rules.{rules}
-use borrow.Rule.Slice.PartMut.{same_len_mid}
 use lib.ListN.{length, drop, length-take, length-drop}
 use Rattle.bits.specs.Row.{odd}
 use Rattle.bits.proofs.Filling.{filled-part}
@@ -19,32 +18,11 @@ use Rattle.aes3_write.proofs.write_line.Goals.{At-loop-j}
 
 pub loop-j-init : goal.loop-j-init
 unfolding block_line
-loop-j-init c = (omega arith, omega arith, refl)
-
-pub overflow_mul-a : goal.overflow_mul-a
-overflow_mul-a c = omega arith
-
-pub overflow_add-e : goal.overflow_add-e
-overflow_add-e c = omega arith
-
-pub slice_bounds-write_sixteen-count : goal.slice_bounds-write_sixteen-count
-slice_bounds-write_sixteen-count c = omega arith
-
-pub slice_bounds-write_sixteen-start : goal.slice_bounds-write_sixteen-start
-slice_bounds-write_sixteen-start c = omega arith
-
-pub slice_bounds-write_sixteen-end : goal.slice_bounds-write_sixteen-end
-slice_bounds-write_sixteen-end c = omega arith
+loop-j-init c = refl
 
 pub write_sixteen-requires : goal.write_sixteen-requires
 write_sixteen-requires c =
-    (c.requires.0, c.requires.1, c.requires.2, c.requires.3, c.requires.4, c.requires.5, omega arith, c.requires.6, search rules)
-
-pub overflow_add-j : goal.overflow_add-j
-overflow_add-j c = omega arith
-
-pub loop-j-smaller : goal.loop-j-smaller
-loop-j-smaller c = omega arith
+    (c.requires.0, c.loop-j-test.true, search rules)
 
 pub loop-j-preserved : goal.loop-j-preserved
 loop-j-preserved c =
@@ -60,18 +38,12 @@ loop-j-preserved c =
     let k : loop.j * 128 + 128 - loop.j * 128 ≡ 128 = omega arith in
     let z : length o ≡ 128 = kept ∙ rw (k, length-take, length-drop) (omega arith) in
     let e : 16 * (loop.j + 1) ≡ 16 * loop.j + 16 = omega arith in
-    let s : (loop.j + 1) * 128 ≡ loop.j * 128 + 128 = omega arith in (
-      omega arith,
-      same_len_mid {X = ℕ} (loop.j * 128) (loop.j * 128 + 128 - loop.j * 128) loop.line o kept ∙ loop.invariant.1,
-      rw (e, s) (filled-part loop.line o _ rest _ (loop.j * 128) 128 (omega arith) z (rw (← wrote.ensures) at loop.invariant.2)),
-    )
-
-pub shape_of-line : goal.shape_of-line
-shape_of-line c = omega arith
+    let s : (loop.j + 1) * 128 ≡ loop.j * 128 + 128 = omega arith in
+    rw (e, s) (filled-part loop.line o _ rest _ (loop.j * 128) 128 (omega arith) z (rw (← wrote.ensures) at loop.invariant))
 
 pub returns : goal.returns
 returns c =
     let loop = c.loop-j in
     let a = c.args in
     let n : length (bodies_of a.samples.now a.side.now) ≡ 384 = length-bodies a.samples.now a.side.now in
-    all-written loop.line (bodies_of a.samples.now a.side.now) _ (16 * loop.j) (loop.j * 128) (odd a.level) (omega arith) (omega arith) loop.invariant.2
+    all-written loop.line (bodies_of a.samples.now a.side.now) _ (16 * loop.j) (loop.j * 128) (odd a.level) (omega arith) (omega arith) loop.invariant

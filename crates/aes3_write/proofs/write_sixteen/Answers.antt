@@ -7,7 +7,6 @@ use mathlib.Core.List.{List, ◌++◌}
 use Prim.Native.Nat.{ℕ, suc, ◌+◌, ◌-◌, ◌*◌, ◌/◌, ◌%◌, ◌<◌}
 use native.Mathlib.Omega.{arith}
 use borrow.Author.Rules.{rules}
-use borrow.Rule.Slice.PartMut.{same_len_mid}
 use lib.IntN.{ℤ, pos}
 use lib.ListN.{length, take, get_or}
 use lib.Seq.{take_all}
@@ -19,7 +18,7 @@ use Rattle.block.proofs.BlockLaws.{length-bodies, get_or-bodies, proper}
 use Rattle.block.proofs.CheckLaws.{sound-passes}
 use Rattle.aes3_line.specs.Subframe.{subframe}
 use Rattle.aes3_write.specs.Inner.{opened, body_with, flags, flags_from}
-use Rattle.aes3_line.proofs.Preambles.{due-lt, due-even, due-odd}
+use Rattle.aes3_line.proofs.Preambles.{due-even, due-odd}
 use Rattle.aes3_write.proofs.Writing.{opened-due}
 use Rattle.aes3_write.proofs.LineWriting.{frame-turn}
 use Rattle.aes3_write.proofs.Flags.{flags-frame, body-with}
@@ -28,7 +27,7 @@ use Rattle.aes3_write.proofs.write_sixteen.Goals.{In-loop-f}
 
 ranges : (c : In-loop-f) (i : ℕ) → in_range 24 (get_or c.args.samples.now i (pos 0)) ≡ true
 ranges c i =
-    (sound-passes c.args.samples.now c.args.side.now c.requires.3).ranges i
+    (sound-passes c.args.samples.now c.args.side.now c.requires.0).ranges i
 
 module _ (c : In-loop-f) where
   abbrev samples : List ℤ
@@ -44,7 +43,7 @@ module _ (c : In-loop-f) where
   two-flags =
       let t : c.loop-f.f < 8 = c.loop-f-test.true in
       let n : 16 - 2 * c.loop-f.f ≡ suc (suc (14 - 2 * c.loop-f.f)) = omega arith in
-      flags-frame side index (14 - 2 * c.loop-f.f) c.loop-f.left (rw n at c.loop-f.invariant.2)
+      flags-frame side index (14 - 2 * c.loop-f.f) c.loop-f.left (rw n at c.loop-f.invariant.0)
 
   -- what is made of sample i is body i
   carried : (i f : ℕ) → i < 384 → f ≡ flags side i → body_with (code_of 24 (get_or samples i (pos 0))) f ≡ get_or (bodies_of samples side) i 0
@@ -52,67 +51,21 @@ module _ (c : In-loop-f) where
 
 pub sixteen-left-requires : goal.sixteen-left-requires
 sixteen-left-requires c =
-    (c.requires.2, c.requires.5, c.requires.6)
-
-pub overflow_mul-j : goal.overflow_mul-j
-overflow_mul-j c = omega arith
-
-pub due_octet-m-requires : goal.due_octet-m-requires
-due_octet-m-requires c = tt
-
-pub overflow_cast-m : goal.overflow_cast-m
-overflow_cast-m c = omega arith
+    c.requires.1
 
 pub loop-f-init : goal.loop-f-init
 loop-f-init c =
     let e : 16 * c.args.j + 2 * 0 ≡ 16 * c.args.j = omega arith in
-    (omega arith, c.requires.8, rw e c.sixteen-left.ensures, rw e c.due_octet-m.ensures, rw e refl)
-
-pub overflow_mul-i : goal.overflow_mul-i
-overflow_mul-i c = omega arith
-
-pub overflow_mul-i-in-loop-f : goal.overflow_mul-i-in-loop-f
-overflow_mul-i-in-loop-f c = omega arith
-
-pub overflow_add-i : goal.overflow_add-i
-overflow_add-i c = omega arith
-
-pub overflow_mul-s : goal.overflow_mul-s
-overflow_mul-s c = omega arith
-
-pub overflow_add-e : goal.overflow_add-e
-overflow_add-e c = omega arith
-
-pub slice_bounds-write_frame-count : goal.slice_bounds-write_frame-count
-slice_bounds-write_frame-count c = omega arith
-
-pub slice_bounds-write_frame-start : goal.slice_bounds-write_frame-start
-slice_bounds-write_frame-start c = omega arith
-
-pub slice_bounds-write_frame-end : goal.slice_bounds-write_frame-end
-slice_bounds-write_frame-end c = omega arith
+    (rw e c.sixteen-left.ensures, rw e c.due_octet-m.ensures, rw e refl)
 
 pub write_frame-requires : goal.write_frame-requires
 write_frame-requires c =
     let k = (goal.at.write_frame-requires c).In-loop-f in (
-      k.requires.0,
-      k.requires.1,
-      k.requires.4,
       omega arith,
       ranges k (index k),
       ranges k (index k + 1),
-      omega (arith, due-lt (index k), k.loop-f.invariant.3),
       search rules,
     )
-
-pub overflow_cast-m-in-loop-f : goal.overflow_cast-m-in-loop-f
-overflow_cast-m-in-loop-f c = omega arith
-
-pub overflow_add-f : goal.overflow_add-f
-overflow_add-f c = omega arith
-
-pub loop-f-smaller : goal.loop-f-smaller
-loop-f-smaller c = omega arith
 
 pub loop-f-preserved : goal.loop-f-preserved
 loop-f-preserved c =
@@ -133,25 +86,20 @@ loop-f-preserved c =
     let a = get_or bodies i 0 in
     let b = get_or bodies (i + 1) 0 in
     let x : opened loop.m l (body_with (code_of 24 (get_or (samples k) i (pos 0))) (loop.left % 8)) ≡ subframe i l a =
-    ap₂ (λ (m b : ℕ). opened m l b) loop.invariant.3 (carried k i (loop.left % 8) (omega arith) two.0) ∙ opened-due i l a in
+    ap₂ (λ (m b : ℕ). opened m l b) loop.invariant.1 (carried k i (loop.left % 8) (omega arith) two.0) ∙ opened-due i l a in
     let y : opened 0b11100100 l (body_with (code_of 24 (get_or (samples k) (i + 1) (pos 0))) (loop.left / 16 % 8)) ≡ subframe (suc i) l b =
     ap₂ (λ (m b : ℕ). opened m l b) (due-odd (suc i) (omega arith)) (carried k (i + 1) (loop.left / 16 % 8) (omega arith) two.1) ∙ opened-due (suc i) l b in (
-      omega arith,
-      same_len_mid {X = ℕ} (loop.f * 16) (loop.f * 16 + 16 - loop.f * 16) loop.part o wrote.auto.part ∙ loop.invariant.1,
       rw (e, q) two.2,
       rw e (due-even (i + 2) (omega arith) (omega arith)),
       rw (e, s)
           (frame-turn bodies o i a b l h refl refl (proper (samples k) (side k) i) (proper (samples k) (side k) (i + 1))
           (wrote.ensures ∙ ap₂ (λ (r t : Row). octets 8 r ++ octets 8 t) x y)
-          loop.part _ _ (loop.f * 16) (omega arith) loop.invariant.4),
+          loop.part _ _ (loop.f * 16) (omega arith) loop.invariant.2),
     )
-
-pub shape_of-part : goal.shape_of-part
-shape_of-part c = omega arith
 
 pub returns : goal.returns
 returns c =
     let loop = c.loop-f in
     let e : 16 * c.args.j + 2 * loop.f ≡ 16 * c.args.j + 16 = omega arith in
     let q : take (loop.f * 16) loop.part ≡ loop.part = take_all (loop.f * 16) loop.part (omega arith) in
-    rw (q, e) at loop.invariant.4
+    rw (q, e) at loop.invariant.2

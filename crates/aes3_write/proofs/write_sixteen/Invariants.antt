@@ -3,8 +3,8 @@
 -- are left, stand ready. Assumes nothing.
 use mathlib.Core.Path.{◌≡◌}
 use mathlib.Core.List.{◌++◌}
-use Prim.Native.Nat.{◌+◌, ◌-◌, ◌*◌, ◌≤◌}
-use lib.ListN.{length, take, drop}
+use Prim.Native.Nat.{◌+◌, ◌-◌, ◌*◌}
+use lib.ListN.{take, drop}
 use Rattle.bits.specs.Row.{odd, big}
 use Rattle.block.specs.Block.{bodies_of}
 use Rattle.aes3_line.specs.Subframe.{due}
@@ -13,12 +13,7 @@ use Rattle.aes3_write.specs.Inner.{flags_from}
 use Rattle.aes3_write.proofs.write_sixteen.Given as goal
 
 abbrev pub invariant-loop-f : goal.invariant-loop-f
-invariant-loop-f l = (l.f ≤ 8)
-    × (length l.part ≡ 128)
-    × (l.left ≡ flags_from l.side (16 * l.j + 2 * l.f) (16 - 2 * l.f))
+invariant-loop-f l = (l.left ≡ flags_from l.side (16 * l.j + 2 * l.f) (16 - 2 * l.f))
     × (l.m ≡ big (due (16 * l.j + 2 * l.f)))
     × (take (l.f * 16) l.part ++ line_from (16 * l.j + 2 * l.f) (odd l.level) (drop (16 * l.j + 2 * l.f) (bodies_of l.samples l.side))
     ≡ line_from (16 * l.j) (odd l.level) (drop (16 * l.j) (bodies_of l.samples l.side)))
-
-abbrev pub decreases-loop-f : goal.decreases-loop-f
-decreases-loop-f l = 8 - l.f

@@ -32,16 +32,13 @@ all : (words : List ℕ) (sum i : ℕ) → length words ≤ i → (eqb sum 0 && 
 unfolding all_coded
 all words sum i h = rw (drop_of_length-le words {i = i} h) (and-true (eqb sum 0))
 
-pub loop-i-init : goal.loop-i-init
-loop-i-init c = (search rules, refl)
-
-pub loop-i-preserved : goal.loop-i-preserved
-loop-i-preserved c = (
+pub loop-w-preserved : goal.loop-w-preserved
+loop-w-preserved c = (
   search rules,
-  next c.args.words.now c.loop-i.sum c.excess-sum.result c.loop-i.i c.loop-i-test.true c.excess-sum.ensures
-      ∙ c.loop-i.invariant.1,
+  next c.args.words.now c.loop-w.sum c.excess-sum.result c.loop-w.w-index c.loop-w-test.true c.excess-sum.ensures
+      ∙ c.loop-w.invariant.1,
 )
 
 pub returns : goal.returns
 returns c =
-    sym (all c.args.words.now c.loop-i.sum c.loop-i.i c.loop-i-test.false) ∙ c.loop-i.invariant.1
+    sym (all c.args.words.now c.loop-w.sum c.loop-w.w-index c.loop-w-test.false) ∙ c.loop-w.invariant.1

@@ -1,36 +1,24 @@
--- `anc::group_of` meets its contract, DID by DID. Assumes nothing.
-use borrow.Author.Tests.{eq-eqb, ne_eqb}
+-- `anc::group_of` meets its contract: the group is the place of the first DID that is the word. Assumes nothing.
+use mathlib.Core.Path.{◌≡◌, refl, sym, ◌∙◌}
+use borrow.Author.Rules.{rules}
+use borrow.Author.Tests.{tests}
+use lib.Dec.{eqb}
+use lib.ListN.{length}
+use Rattle.std.specs.Prelude.{Some, None}
 use Rattle.bits.specs.Pick.{first}
+use Rattle.anc.proofs.Searched.{position-first}
+use Rattle.anc.proofs.Heads.{is_did, group-nowhere, group-place}
 use Rattle.anc.proofs.group_of.Goals as goal
+use Rattle.anc.proofs.group_of.Goals.{After-position}
 
-pub returns-then-w-one : goal.returns-then-w-one
-unfolding first
-returns-then-w-one c = rw (eq-eqb _ _ c.if-w-one.true)
+place : (p : After-position) → p.position.result ≡ first (is_did p.args.dids p.args.w) 0 (length p.args.dids) Some None
+place p =
+    position-first (eqb p.args.w) (is_did p.args.dids p.args.w) p.args.dids (λ k. refl) _ _ p.position.result p.position.ensures.ran (cc)
+    (λ x q k. search (rules, tests)) (λ x q k. search (rules, tests))
 
-pub returns-then-w-two : goal.returns-then-w-two
-unfolding first
-returns-then-w-two c = rw (ne_eqb _ _ c.if-w-one.false, eq-eqb _ _ c.if-w-two.true)
-
-pub returns-then-w-three : goal.returns-then-w-three
-unfolding first
-returns-then-w-three c = rw (ne_eqb _ _ c.if-w-one.false, ne_eqb _ _ c.if-w-two.false, eq-eqb _ _ c.if-w-three.true)
-
-pub returns-then-w-four : goal.returns-then-w-four
-unfolding first
-returns-then-w-four c =
-    rw (
-      ne_eqb _ _ c.if-w-one.false,
-      ne_eqb _ _ c.if-w-two.false,
-      ne_eqb _ _ c.if-w-three.false,
-      eq-eqb _ _ c.if-w-four.true,
-    )
+pub returns-in_err-at : goal.returns-in_err-at
+returns-in_err-at c =
+    c.from_residual.ensures ∙ group-nowhere c.args.dids c.args.w (sym c.in_err-at.was ∙ place (goal.at.returns-in_err-at c).After-position)
 
 pub returns : goal.returns
-unfolding first
-returns c =
-    rw (
-      ne_eqb _ _ c.if-w-one.false,
-      ne_eqb _ _ c.if-w-two.false,
-      ne_eqb _ _ c.if-w-three.false,
-      ne_eqb _ _ c.if-w-four.false,
-    )
+returns c = group-place c.args.dids c.args.w (sym c.in_ok-at.was ∙ place (goal.at.returns c).After-position)

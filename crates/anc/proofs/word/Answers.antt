@@ -5,4 +5,4 @@ use Rattle.anc.proofs.word.Goals as goal
 
 pub returns : goal.returns
 unfolding word_of
-returns c = rw (count_ones 8 c.args.n c.ranges.n.fits)
+returns c = rw (c.from.ensures, count_ones 8 c.args.n c.ranges.n.fits)

@@ -7,15 +7,16 @@ use lib.ListN.{take, drop}
 use Rattle.codes.specs.Crcc.{crcc_right}
 use Rattle.block.specs.Side.{status, columns, column_length, column_in}
 use Rattle.block.specs.Check.{status_of, status_right}
+use Rattle.block.proofs.status_right.Goals.{then-side-ne-SIDE-via-then-side-ne-SIDE, then-side-ne-SIDE-via-else-side-ne-SIDE+then-channel-ge2}
 use Rattle.block.proofs.status_right.Goals as goal
 
 pub returns-then-side-ne-SIDE : goal.returns-then-side-ne-SIDE
 unfolding status_right
-returns-then-side-ne-SIDE c = simp (ne_eqb _ _ c.if-side-ne-SIDE.true)
-
-pub returns-then-channel-ge2 : goal.returns-then-channel-ge2
-unfolding status_right
-returns-then-channel-ge2 c = simp (eq-eqb _ _ c.if-side-ne-SIDE.false, le-ltb _ _ c.if-channel-ge2.true)
+returns-then-side-ne-SIDE c =
+    elim c.then-side-ne-SIDE.branch [
+      | then-side-ne-SIDE-via-then-side-ne-SIDE w ↦ simp (ne_eqb _ _ w.if-side-ne-SIDE.true)
+      | then-side-ne-SIDE-via-else-side-ne-SIDE+then-channel-ge2 w ↦ simp (eq-eqb _ _ w.if-side-ne-SIDE.false, le-ltb _ _ w.if-channel-ge2.true)
+    ]
 
 pub returns : goal.returns
 unfolding status_right status_of column_in

@@ -1,13 +1,12 @@
--- `codes::crcc_right` meets its contract, by the test on the length.
--- Assumes nothing.
-use borrow.Author.Tests.{eq-eqb, ne_eqb}
+-- `codes::crcc_right` meets its contract: 24 octets, of which the last is the CRCC of the others. Assumes nothing.
+use borrow.Author.Rules.{rules}
 use Rattle.codes.specs.Crcc.{crcc_right}
 use Rattle.codes.proofs.crcc_right.Goals as goal
 
-pub returns-then-status-ne24 : goal.returns-then-status-ne24
+pub returns-then-status-eq24 : goal.returns-then-status-eq24
 unfolding crcc_right
-returns-then-status-ne24 c = simp (ne_eqb _ _ c.if-status-ne24.true)
+returns-then-status-eq24 c = search rules
 
-pub returns : goal.returns
+pub returns-else-status-eq24 : goal.returns-else-status-eq24
 unfolding crcc_right
-returns c = simp (eq-eqb _ _ c.if-status-ne24.false, c.crcc_of.ensures)
+returns-else-status-eq24 c = search rules

@@ -1,36 +1,29 @@
 -- `codes::fill_checks` meets its contract. Assumes nothing.
-use mathlib.Core.Path.{◌≡◌, refl, sym, ap, ◌∙◌}
-use mathlib.Core.List.{List, [], ◌∷◌, ◌++◌, append-nil}
-use Prim.Native.Nat.{ℕ, ◌+◌}
+use mathlib.Core.Path.{◌≡◌, sym, ap, ◌∙◌}
+use mathlib.Core.List.{List, ◌++◌, append-nil}
+use Prim.Native.Nat.{ℕ}
 use native.Mathlib.Omega.{arith}
 use borrow.Author.Tests.{eq-eqb, ne_eqb}
-use lib.ListN.{length, take, length-set, drop_of_length-le}
-use lib.Seq.{sets, sets-eq}
+use borrow.Rule.Slice.PartMut.{put_mid}
+use lib.ListN.{length, take, drop, drop_of_length-le, length-drop}
 use Rattle.codes.specs.Lanes.{check_octets}
 use Rattle.codes.specs.Inner.{with_checks}
 use Rattle.codes.proofs.fill_checks.Goals as goal
 
--- six stores are the check octets after the 24 that stand
-stored : (os cs : List ℕ) → length os ≡ 30 → length cs ≡ 6 → cs ≡ check_octets (take 24 os) → sets os 24 cs ≡ with_checks os
+-- the last six of 30 octets
+placed : (os cs : List ℕ) → length os ≡ 30 → cs ≡ check_octets (take 24 os) → put_mid 24 6 os cs ≡ with_checks os
 unfolding with_checks
-stored os cs h n e =
-    sets-eq cs os 24 (omega arith)
-    ∙ ap (λ (t : List ℕ). (take 24 os ++ cs) ++ t) (drop_of_length-le os {i = 24 + length cs} (omega arith))
-    ∙ append-nil (take 24 os ++ cs) ∙ ap (λ (t : List ℕ). take 24 os ++ t) e
+placed os cs h e =
+    ap (λ (l : List ℕ). take 24 os ++ l)
+    (ap (λ (l : List ℕ). cs ++ l) (drop_of_length-le (drop 24 os) {i = 6} (omega (arith, length-drop 24 os))) ∙ append-nil cs ∙ e)
     ∙ sym (rw (eq-eqb (length os) 30 h))
 
-pub returns-then-octets-ne30 : goal.returns-then-octets-ne30
+pub returns-in-Some : goal.returns-in-Some
+returns-in-Some c =
+    let chunk = c.in-Some.ensures.cases in
+    placed c.in-Some.octets.now c.copy_from_slice.new.self (ap length chunk.same ∙ chunk.long) (c.copy_from_slice.ensures.after ∙ c.checks-checks.ensures)
+    ∙ ap with_checks chunk.same
+
+pub returns-in_default : goal.returns-in_default
 unfolding with_checks
-returns-then-octets-ne30 c = simp (ne_eqb _ _ c.if-octets-ne30.true)
-
-pub bounds-octets-28 : goal.bounds-octets-28
-bounds-octets-28 c = simp length-set (omega arith)
-
-pub bounds-octets-29 : goal.bounds-octets-29
-bounds-octets-29 c = simp length-set (omega arith)
-
-pub returns : goal.returns
-returns c =
-    let r = c.checks-c.result in
-    stored c.args.octets.now (r.c0 ∷ r.c1 ∷ r.c2 ∷ r.c3 ∷ r.c4 ∷ r.c5 ∷ [])
-    c.if-octets-ne30.false refl c.checks-c.ensures
+returns-in_default c = rw (ne_eqb (length c.args.octets.now) 30 c.in_default.ensures.cases)

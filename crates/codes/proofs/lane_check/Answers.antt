@@ -35,23 +35,23 @@ module _ (stages rest : ℕ) where
       let m : 24 - k ≡ suc (24 - (k + 1)) = omega arith in
       rw (m, next-fed)
 
-pub loop-k-init : goal.loop-k-init
+pub loop-init : goal.loop-init
 unfolding lane_check
-loop-k-init c = (omega arith, omega arith, refl)
+loop-init c = (omega arith, omega arith, refl)
 
 pub overflow_mul-stages : goal.overflow_mul-stages
 overflow_mul-stages c =
-    omega (arith, entered-lt c.loop-k.stages c.loop-k.rest c.loop-k.invariant.1)
+    omega (arith, entered-lt c.loop.stages c.loop.rest c.loop.invariant.1)
 
-pub loop-k-preserved : goal.loop-k-preserved
-loop-k-preserved c = (
+pub loop-preserved : goal.loop-preserved
+loop-preserved c = (
   omega arith,
-  next-lt c.loop-k.stages c.loop-k.rest c.loop-k.invariant.1,
-  through-next c.loop-k.stages c.loop-k.rest c.loop-k.k c.loop-k-test.true ∙ c.loop-k.invariant.2,
+  next-lt c.loop.stages c.loop.rest c.loop.invariant.1,
+  through-next c.loop.stages c.loop.rest c.loop.counter c.loop-test.true ∙ c.loop.invariant.2,
 )
 
 pub returns : goal.returns
 unfolding through bits
 returns c =
-    let z : 24 - c.loop-k.k ≡ 0 = omega (arith, c.loop-k-test.false) in
-    sym (ap (λ (n : ℕ). through 6 lane_generator c.loop-k.stages (bits n c.loop-k.rest)) z) ∙ c.loop-k.invariant.2
+    let z : 24 - c.loop.counter ≡ 0 = omega (arith, c.loop-test.false) in
+    sym (ap (λ (n : ℕ). through 6 lane_generator c.loop.stages (bits n c.loop.rest)) z) ∙ c.loop.invariant.2

@@ -6,8 +6,5 @@ use Rattle.codes.specs.Divide.{through}
 use Rattle.codes.specs.Lane.{lane_generator, lane_check}
 use Rattle.codes.proofs.lane_check.Given as goal
 
-abbrev pub invariant-loop-k : goal.invariant-loop-k
-invariant-loop-k l = (l.k ≤ 24) × (l.stages < 64) × (through 6 lane_generator l.stages (bits (24 - l.k) l.rest) ≡ lane_check l.lane)
-
-abbrev pub decreases-loop-k : goal.decreases-loop-k
-decreases-loop-k l = 24 - l.k
+abbrev pub invariant-loop : goal.invariant-loop
+invariant-loop l = (l.counter ≤ 24) × (l.stages < 64) × (through 6 lane_generator l.stages (bits (24 - l.counter) l.rest) ≡ lane_check l.lane)

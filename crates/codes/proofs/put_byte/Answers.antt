@@ -13,4 +13,4 @@ returns c =
     let byte = c.args.byte in
     let new = c.args.new in
     ap (set (set status byte new) 23)
-    (ap (bit_xor (get_or status 23 0)) c.crcc_added.ensures ∙ crcc-from-difference status byte new c.requires.2 c.requires.1)
+    (ap (bit_xor (get_or status 23 0)) c.crcc_added.ensures ∙ crcc-from-difference status byte new c.requires.1 c.requires.0)

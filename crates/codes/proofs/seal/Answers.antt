@@ -20,5 +20,5 @@ unfolding seal_answer
 returns c =
     let s = c.args.status.now in
     let both = shows-acceptance _ _ _ _ _ (eq-eqb _ 24 c.if-status-ne24.false & tt) (length-set s 23 (crcc_of s))
-    (ap (set s 23) c.crcc_of-v.ensures) in
+    (ap (set s 23) c.crcc_of.ensures) in
     record { result_value = both.0; status_after = both.1 }

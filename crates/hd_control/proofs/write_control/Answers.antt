@@ -16,10 +16,10 @@ use Rattle.hd_control.specs.Write.{control_in_ranges, write_answer}
 use Rattle.hd_control.specs.declared.Control.{Control}
 use Rattle.hd_control.proofs.ControlLaws.{ranges, fourteen, packet-size, packet-of}
 use Rattle.hd_control.proofs.write_control.Goals as goal
-use Rattle.hd_control.proofs.write_control.Goals.{Then-in_ranges}
+use Rattle.hd_control.proofs.write_control.Goals.{Else-not-in_ranges}
 
 -- after the length and the ranges
-module _ (t : Then-in_ranges) where
+module _ (t : Else-not-in_ranges) where
   abbrev fields : Control
   fields = t.args.c
 
@@ -30,7 +30,7 @@ module _ (t : Then-in_ranges) where
   room = t.if-words-ne18.false
 
   in-range : control_in_ranges fields ≡ true
-  in-range = sym t.in_ranges.ensures ∙ t.if-in_ranges.true
+  in-range = sym t.in_ranges.ensures ∙ t.if-not-in_ranges.false
 
 pub returns-then-words-ne18 : goal.returns-then-words-ne18
 unfolding write_answer
@@ -38,10 +38,17 @@ returns-then-words-ne18 c =
     let both = shows-refusal _ _ _ _ (fails (ne_eqb _ 18 c.if-words-ne18.true)) in
     record { result_value = both.0; words_after = both.1 }
 
+pub returns-then-not-in_ranges : goal.returns-then-not-in_ranges
+unfolding write_answer
+returns-then-not-in_ranges c =
+    let both = shows-refusal _ _ _ _
+    (later (eq-eqb _ 18 c.if-words-ne18.false) (fails (sym c.in_ranges.ensures ∙ c.if-not-in_ranges.true))) in
+    record { result_value = both.0; words_after = both.1 }
+
 pub returns-then-misuses : goal.returns-then-misuses
 unfolding write_answer
 returns-then-misuses c =
-    let t = (goal.at.returns-then-misuses c).Then-in_ranges in
+    let t = (goal.at.returns-then-misuses c).Else-not-in_ranges in
     let both = shows-refusal _ _ _ _
     (later (eq-eqb _ 18 (room t)) (later (in-range t) (fails (ap not (sym c.misuses.ensures ∙ c.if-misuses.true))))) in
     record { result_value = both.0; words_after = both.1 }
@@ -49,33 +56,27 @@ returns-then-misuses c =
 pub returns-then-is_reserved : goal.returns-then-is_reserved
 unfolding write_answer
 returns-then-is_reserved c =
-    let t = (goal.at.returns-then-is_reserved c).Then-in_ranges in
+    let t = (goal.at.returns-then-is_reserved c).Else-not-in_ranges in
     let both = shows-refusal _ _ _ _
     (later (eq-eqb _ 18 (room t)) (later (in-range t) (later (ap not (sym c.misuses.ensures ∙ c.if-misuses.false))
     (fails (ap not (sym c.is_reserved.ensures ∙ c.if-is_reserved.true)))))) in
     record { result_value = both.0; words_after = both.1 }
 
-pub lay-coded-requires : goal.lay-coded-requires
-lay-coded-requires c =
-    let t = (goal.at.lay-coded-requires c).Then-in_ranges in
+pub lay-requires : goal.lay-requires
+lay-requires c =
+    let t = (goal.at.lay-requires c).Else-not-in_ranges in
     ranges (fields t) (in-range t)
 
-pub returns-then-in_ranges : goal.returns-then-in_ranges
+pub returns-else-is_reserved : goal.returns-else-is_reserved
 unfolding write_answer
-returns-then-in_ranges c =
-    let t = (goal.at.returns-then-in_ranges c).Then-in_ranges in
+returns-else-is_reserved c =
+    let t = (goal.at.returns-else-is_reserved c).Else-not-in_ranges in
     let ws = words_by rule_of 3 (control_values (fields t)) in
     let n : length ws ≡ 14 = length-words rule_of 3 (control_values (fields t)) ∙ fourteen (fields t) in
     let both = shows-acceptance _ _ _ _ _
     (eq-eqb _ 18 (room t) & in-range t & ap not (sym c.misuses.ensures ∙ c.if-misuses.false)
     & ap not (sym c.is_reserved.ensures ∙ c.if-is_reserved.false) & tt)
     (packet-size (fields t) ∙ sym (room t))
-    (c.enclose.ensures ∙ ap (λ (w : List ℕ). laid_out w (old t)) c.lay-coded.ensures
+    (c.enclose.ensures ∙ ap (λ (w : List ℕ). laid_out w (old t)) c.lay.ensures
     ∙ laid_out_lem ws (old t) (room t ∙ ap (λ (k : ℕ). 4 + k) (sym n)) ∙ packet-of (fields t)) in
-    record { result_value = both.0; words_after = both.1 }
-
-pub returns : goal.returns
-unfolding write_answer
-returns c =
-    let both = shows-refusal _ _ _ _ (later (eq-eqb _ 18 c.if-words-ne18.false) (fails (sym c.in_ranges.ensures ∙ c.if-in_ranges.false))) in
     record { result_value = both.0; words_after = both.1 }

@@ -11,7 +11,7 @@ use Rattle.hd_packet.specs.Packet.{packet_of}
 use Rattle.hd_packet.specs.Inner.{packet_laid}
 use Rattle.hd_packet.proofs.PacketLaws.{length-packet, packet-at, packet-last, laid-coded, laid-three}
 use Rattle.hd_packet.proofs.lay_packet.Goals as goal
-use Rattle.hd_packet.proofs.lay_packet.Goals.{At-loop-k}
+use Rattle.hd_packet.proofs.lay_packet.Goals.{At-loop-k, then-octets-ne30-via-then-octets-ne30, then-octets-ne30-via-else-octets-ne30+then-words-ne31}
 
 module _ (c : At-loop-k) where
   abbrev os : List ℕ
@@ -52,11 +52,11 @@ module _ (c : At-loop-k) where
 
 pub returns-then-octets-ne30 : goal.returns-then-octets-ne30
 unfolding packet_laid
-returns-then-octets-ne30 c = simp (ne_eqb _ _ c.if-octets-ne30.true)
-
-pub returns-then-words-ne31 : goal.returns-then-words-ne31
-unfolding packet_laid
-returns-then-words-ne31 c = simp (eq-eqb _ _ c.if-octets-ne30.false, ne_eqb _ _ c.if-words-ne31.true)
+returns-then-octets-ne30 c =
+    elim c.then-octets-ne30.branch [
+      | then-octets-ne30-via-then-octets-ne30 w ↦ simp (ne_eqb _ _ w.if-octets-ne30.true)
+      | then-octets-ne30-via-else-octets-ne30+then-words-ne31 w ↦ simp (eq-eqb _ _ w.if-octets-ne30.false, ne_eqb _ _ w.if-words-ne31.true)
+    ]
 
 pub bounds-words-1 : goal.bounds-words-1
 bounds-words-1 c = simp length-set (omega (arith, c.if-words-ne31.false))
@@ -67,20 +67,8 @@ bounds-words-2 c = simp length-set (omega (arith, c.if-words-ne31.false))
 pub loop-k-init : goal.loop-k-init
 loop-k-init c = (omega arith, omega arith, laid-three c.args.octets.now c.args.words.now c.if-words-ne31.false)
 
-pub bounds-octets-k : goal.bounds-octets-k
-bounds-octets-k c = omega arith
-
-pub offset_bounds-words-k : goal.offset_bounds-words-k
-offset_bounds-words-k c = omega arith
-
 pub bounds-words-k : goal.bounds-words-k
 bounds-words-k c = omega (arith, long (goal.at.bounds-words-k c).At-loop-k)
-
-pub overflow_add-k : goal.overflow_add-k
-overflow_add-k c = omega arith
-
-pub loop-k-smaller : goal.loop-k-smaller
-loop-k-smaller c = omega arith
 
 pub loop-k-preserved : goal.loop-k-preserved
 loop-k-preserved c = (omega arith, omega arith, next (goal.at.loop-k-preserved c).At-loop-k c.word.result c.loop-k-test.true c.word.ensures)
@@ -94,11 +82,11 @@ bounds-words-30 c = omega (arith, long (goal.at.bounds-words-30 c).At-loop-k)
 pub shape_of-words : goal.shape_of-words
 shape_of-words c =
     let p = (goal.at.shape_of-words c).At-loop-k in
-    length-set p.loop-k.words 30 c.check_word-sum.result ∙ long p ∙ sym p.if-words-ne31.false
+    length-set p.loop-k.words 30 c.check_word.result ∙ long p ∙ sym p.if-words-ne31.false
 
 pub returns : goal.returns
 unfolding packet_laid
 returns c =
     let p = (goal.at.returns c).At-loop-k in
     simp (eq-eqb _ _ (thirty p), eq-eqb _ _ p.if-words-ne31.false)
-    (last p c.check_word-sum.result c.loop-k-test.false c.check_word-sum.ensures)
+    (last p c.check_word.result c.loop-k-test.false c.check_word.ensures)

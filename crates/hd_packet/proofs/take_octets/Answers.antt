@@ -1,5 +1,5 @@
 -- `hd_packet::take_octets` meets its contract: after k turns the first k octets are those of the words. Assumes nothing.
-use mathlib.Core.Path.{◌≡◌, refl, sym, ap, ap₂, ◌∙◌}
+use mathlib.Core.Path.{◌≡◌, sym, ap, ap₂, ◌∙◌}
 use mathlib.Core.List.{List}
 use Prim.Native.Nat.{ℕ, ◌+◌, ◌%◌, ◌^◌, ◌≤◌, ◌<◌}
 use native.Mathlib.Omega.{arith}
@@ -10,7 +10,7 @@ use Rattle.hd_packet.specs.Packet.{octets_of}
 use Rattle.hd_packet.specs.Inner.{octets_taken}
 use Rattle.hd_packet.proofs.PacketLaws.{length-octets, octet-at}
 use Rattle.hd_packet.proofs.take_octets.Goals as goal
-use Rattle.hd_packet.proofs.take_octets.Goals.{At-loop-k}
+use Rattle.hd_packet.proofs.take_octets.Goals.{At-loop-k, then-words-lt30-via-then-words-lt30, then-words-lt30-via-else-words-lt30+then-octets-ne30}
 
 module _ (c : At-loop-k) where
   abbrev ws : List ℕ
@@ -41,35 +41,17 @@ module _ (c : At-loop-k) where
 
 pub returns-then-words-lt30 : goal.returns-then-words-lt30
 unfolding octets_taken
-returns-then-words-lt30 c = simp (lt-leb _ _ c.if-words-lt30.true)
-
-pub returns-then-octets-ne30 : goal.returns-then-octets-ne30
-unfolding octets_taken
-returns-then-octets-ne30 c = simp (le-leb _ _ c.if-words-lt30.false, ne_eqb _ _ c.if-octets-ne30.true)
-
-pub loop-k-init : goal.loop-k-init
-loop-k-init c = (omega arith, refl)
-
-pub offset_bounds-words-k : goal.offset_bounds-words-k
-offset_bounds-words-k c = omega arith
-
-pub bounds-words-k : goal.bounds-words-k
-bounds-words-k c = omega arith
-
-pub overflow_cast-octets : goal.overflow_cast-octets
-overflow_cast-octets c = omega arith
+returns-then-words-lt30 c =
+    elim c.then-words-lt30.branch [
+      | then-words-lt30-via-then-words-lt30 w ↦ simp (lt-leb _ _ w.if-words-lt30.true)
+      | then-words-lt30-via-else-words-lt30+then-octets-ne30 w ↦ simp (le-leb _ _ w.if-words-lt30.false, ne_eqb _ _ w.if-octets-ne30.true)
+    ]
 
 pub bounds-octets-k : goal.bounds-octets-k
 bounds-octets-k c = omega (arith, long (goal.at.bounds-octets-k c).At-loop-k, room (goal.at.bounds-octets-k c).At-loop-k)
 
-pub overflow_add-k : goal.overflow_add-k
-overflow_add-k c = omega arith
-
-pub loop-k-smaller : goal.loop-k-smaller
-loop-k-smaller c = omega arith
-
 pub loop-k-preserved : goal.loop-k-preserved
-loop-k-preserved c = (omega arith, next (goal.at.loop-k-preserved c).At-loop-k c.loop-k-test.true)
+loop-k-preserved c = (omega arith, next (goal.at.loop-k-preserved c).At-loop-k (omega arith))
 
 pub shape_of-octets : goal.shape_of-octets
 shape_of-octets c = long (goal.at.shape_of-octets c).At-loop-k
@@ -78,4 +60,4 @@ pub returns : goal.returns
 unfolding octets_taken
 returns c =
     let p = (goal.at.returns c).At-loop-k in
-    simp (le-leb _ _ (wide p), eq-eqb _ _ (room p)) (done p c.loop-k-test.false)
+    simp (le-leb _ _ (wide p), eq-eqb _ _ (room p)) (done p (omega (arith, c.loop-k-test.false, room p)))

@@ -1,18 +1,13 @@
--- `hd_read::sound` meets its contract, test by test. Assumes nothing.
-use borrow.Author.Tests.{eqb-true}
-use mathlib.Core.Path.{refl, sym, ◌∙◌}
-use mathlib.Core.Bool.{false}
-use Rattle.bits.proofs.Tests.{no-yes}
+-- `hd_read::sound` meets its contract. Assumes nothing.
+use mathlib.Core.Path.{sym, ◌∙◌}
+use native.Mathlib.Omega.{arith}
+use Rattle.anc.proofs.Heads.{head_read}
+use Rattle.hd_packet.specs.Packet.{dids, dc}
 use Rattle.hd_read.proofs.ReadLaws.{sound-met}
 use Rattle.hd_read.proofs.sound.Goals as goal
 
-pub returns-then-wrong_head-lt31 : goal.returns-then-wrong_head-lt31
-returns-then-wrong_head-lt31 c = λ e. no-yes false refl e
-
-pub returns-then-all_coded : goal.returns-then-all_coded
-returns-then-all_coded c = λ e.
-    sound-met c.args.words.now c.requires (c.wrong_head.ensures.all-met c.if-wrong_head-lt31.false)
-    (sym c.all_coded.ensures ∙ c.if-all_coded.true) (eqb-true _ _ e ∙ c.check_word.ensures)
-
-pub returns : goal.returns
-returns c = λ e. no-yes false refl e
+pub returns-then-words-check_word : goal.returns-then-words-check_word
+returns-then-words-check_word c =
+    let ws = c.args.words.now in
+    let r = head_read dids dc ws (omega arith) c.in-Ok.ensures in
+    (sound-met ws c.told-words r.0 (sym c.if-all_coded.ensures) (c.if-words-check_word.true ∙ c.check_word.ensures), sym r.1)

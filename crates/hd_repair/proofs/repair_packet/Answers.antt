@@ -10,9 +10,10 @@ use Rattle.answer.specs.Answer.{Answer.accepted}
 use Rattle.answer.specs.Demand.{Demand, Demand.asks, Demand.finds_none, Met, ◌&◌, Stops}
 use Rattle.answer.specs.Demand.Stops.{fails, later}
 use Rattle.answer.proofs.Residues.{shows-refusal, shows-acceptance}
-use Rattle.answer.specs.Said.{number_said}
+use Rattle.answer.specs.Said.{said}
 use Rattle.anc.specs.Word.{wide_at}
-use Rattle.anc.proofs.Searched.{wide-found}
+use Rattle.std.proofs.lemmas.Result.{err_from_is_err_and}
+use Rattle.anc.proofs.Searched.{wide-found, wide-below}
 use Rattle.anc.proofs.Searched.{none-wide as no-wide}
 use Rattle.codes.specs.Lanes.{hopeless_at, mended_octets, lanes_apart}
 use Rattle.codes.specs.Inner.{mend_answer, octets_after}
@@ -23,7 +24,7 @@ use Rattle.hd_packet.proofs.PacketLaws.{taken, laid}
 use Rattle.hd_repair.specs.Repair.{repaired_octets, packet_repaired, repair_demands, repair_answer, lanes_changed, packet_out}
 use Rattle.hd_repair.proofs.RepairLaws.{long, below, mended-octets, repaired-30, packet-of-octets, packet-size}
 use Rattle.hd_repair.proofs.repair_packet.Goals as goal
-use Rattle.hd_repair.proofs.repair_packet.Goals.{After-mend}
+use Rattle.hd_repair.proofs.repair_packet.Goals.{After-mend, then-words-ne31-via-then-words-ne31, then-words-ne31-via-else-words-ne31+then-repaired-ne31}
 
 -- the lanes have answered
 module _ (m : After-mend) where
@@ -40,13 +41,13 @@ module _ (m : After-mend) where
   room = m.if-repaired-ne31.false
 
   none-wide : Met (finds_none 14 (wide_at ws) 0 (length ws))
-  none-wide = no-wide ws m.first_wide-wide.result m.first_wide-wide.ensures (omega (arith, h, m.if-wide-lt31.false))
+  none-wide = no-wide ws m.in_default.ensures
 
   got : m.take_octets.new.octets ≡ octets_of ws
   got = m.take_octets.ensures ∙ taken ws _ (omega (arith, h)) refl
 
 -- and all of them are mended: this many differ
-module _ (m : After-mend) {n : ℕ} (said : accepted n ≡ number_said m.mend.result) where
+module _ (m : After-mend) {n : ℕ} (said : accepted n ≡ said m.mend.result) where
   answered : accepted n ≡ mend_answer (octets_of (ws m))
   answered = said ∙ m.mend.ensures.result_value ∙ ap mend_answer (got m)
 
@@ -71,29 +72,31 @@ module _ (m : After-mend) {n : ℕ} (said : accepted n ≡ number_said m.mend.re
 pub returns-then-words-ne31 : goal.returns-then-words-ne31
 unfolding repair_answer
 returns-then-words-ne31 c =
-    let both = shows-refusal _ _ _ _ (fails (ne_eqb _ 31 c.if-words-ne31.true)) in
-    record { result_value = both.0; repaired_after = both.1 }
+    elim c.then-words-ne31.branch [
+      | then-words-ne31-via-then-words-ne31 w ↦
+          let both = shows-refusal _ _ _ _ (fails (ne_eqb _ 31 w.if-words-ne31.true)) in
+          record { result_value = both.0; repaired_after = both.1 }
+      | then-words-ne31-via-else-words-ne31+then-repaired-ne31 w ↦
+          let both = shows-refusal _ _ _ _ (later (eq-eqb _ 31 w.if-words-ne31.false) (fails (ne_eqb _ 31 w.if-repaired-ne31.true))) in
+          record { result_value = both.0; repaired_after = both.1 }
+    ]
 
-pub returns-then-repaired-ne31 : goal.returns-then-repaired-ne31
-unfolding repair_answer
-returns-then-repaired-ne31 c =
-    let both = shows-refusal _ _ _ _ (later (eq-eqb _ 31 c.if-words-ne31.false) (fails (ne_eqb _ 31 c.if-repaired-ne31.true))) in
-    record { result_value = both.0; repaired_after = both.1 }
+pub overflow_cast-result : goal.overflow_cast-result
+overflow_cast-result c = omega (arith, wide-below c.args.words.now c.in-Some.ensures)
 
-pub returns-then-wide-lt31 : goal.returns-then-wide-lt31
+pub returns-in-Some : goal.returns-in-Some
 unfolding repair_answer
-returns-then-wide-lt31 c =
-    let w = c.args.words.now in
+returns-in-Some c =
     let both = shows-refusal _ _ _ _
     (later (eq-eqb _ 31 c.if-words-ne31.false) (later (eq-eqb _ 31 c.if-repaired-ne31.false)
-    (wide-found w c.first_wide-wide.result c.first_wide-wide.ensures (omega (arith, c.if-words-ne31.false, c.if-wide-lt31.true))))) in
+    (wide-found c.args.words.now c.in-Some.ensures))) in
     record { result_value = both.0; repaired_after = both.1 }
 
 pub returns-then-octets-ne0 : goal.returns-then-octets-ne0
 unfolding repair_answer
 returns-then-octets-ne0 c =
     let m = (goal.at.returns-then-octets-ne0 c).After-mend in
-    let said = ap number_said (sym c.in-Number.is) in
+    let said = ap said (sym c.in_ok-lanes.was) in
     let x = octets m said in
     let both = shows-refusal _ _ _ _ (then-adf m said (fails (ne_eqb _ 0 (rw x at c.if-octets-ne0.true)))) in
     record { result_value = both.0; repaired_after = both.1 }
@@ -102,7 +105,7 @@ pub returns-then-octets : goal.returns-then-octets
 unfolding repair_answer
 returns-then-octets c =
     let m = (goal.at.returns-then-octets c).After-mend in
-    let said = ap number_said (sym c.in-Number.is) in
+    let said = ap said (sym c.in_ok-lanes.was) in
     let x = octets m said in
     let both = shows-refusal _ _ _ _
     (then-adf m said (later (eq-eqb _ 0 (rw x at c.if-octets-ne0.false)) (fails (ne_eqb _ 255 (rw x at c.if-octets.true))))) in
@@ -112,28 +115,29 @@ pub returns-then-octets-2 : goal.returns-then-octets-2
 unfolding repair_answer
 returns-then-octets-2 c =
     let m = (goal.at.returns-then-octets-2 c).After-mend in
-    let said = ap number_said (sym c.in-Number.is) in
+    let said = ap said (sym c.in_ok-lanes.was) in
     let x = octets m said in
     let both = shows-refusal _ _ _ _
     (then-adf m said (later (eq-eqb _ 0 (rw x at c.if-octets-ne0.false)) (later (eq-eqb _ 255 (rw x at c.if-octets.false))
     (fails (ne_eqb _ 255 (rw x at c.if-octets-2.true)))))) in
     record { result_value = both.0; repaired_after = both.1 }
 
-pub returns-in-Refused : goal.returns-in-Refused
+pub returns-in_err-lanes : goal.returns-in_err-lanes
 unfolding repair_answer
-returns-in-Refused c =
-    let m = (goal.at.returns-in-Refused c).After-mend in
+returns-in_err-lanes c =
+    let m = (goal.at.returns-in_err-lanes c).After-mend in
+    let p = err_from_is_err_and c.from_residual.result c.from_residual.ensures.1 in
     let both = shows-refusal _ _ _ _
     (later (eq-eqb _ 31 (h m)) (later (eq-eqb _ 31 (room m)) (later (none-wide m)
     (mending-stops (octets_of (ws m)) (long (ws m) (h m)) (below (ws m) (h m))
-    (ap number_said (sym c.in-Refused.is) ∙ m.mend.ensures.result_value ∙ ap mend_answer (got m)))))) in
-    record { result_value = both.0; repaired_after = both.1 }
+    (ap said (sym c.in_err-lanes.was) ∙ m.mend.ensures.result_value ∙ ap mend_answer (got m)))))) in
+    record { result_value = rw (p.1, p.2) both.0; repaired_after = both.1 }
 
-pub returns-else-octets-2 : goal.returns-else-octets-2
+pub returns : goal.returns
 unfolding repair_answer
-returns-else-octets-2 c =
-    let m = (goal.at.returns-else-octets-2 c).After-mend in
-    let said = ap number_said (sym c.in-Number.is) in
+returns c =
+    let m = (goal.at.returns c).After-mend in
+    let said = ap said (sym c.in_ok-lanes.was) in
     let x = octets m said in
     let shown =
     shows-acceptance lanes_changed packet_out (lanes_apart 8 (repaired_octets (ws m)) (octets_of (ws m)), packet_repaired (ws m)) (old m)

@@ -1,12 +1,10 @@
 -- `leases::is_request` meets its contract. Assumes nothing.
-use borrow.Author.Tests.{le-leb, lt-leb}
+use mathlib.Core.Path.{◌∙◌}
 use Rattle.leases.specs.Calls.{request}
+use Rattle.leases.proofs.Within.{within}
 use Rattle.leases.proofs.is_request.Goals as goal
-
-pub returns-then-n-ge1 : goal.returns-then-n-ge1
-unfolding request
-returns-then-n-ge1 c = rw (le-leb _ _ c.if-n-ge1.true)
 
 pub returns : goal.returns
 unfolding request
-returns c = rw (lt-leb _ _ c.if-n-ge1.false)
+returns c =
+    c.contains.ensures.value ∙ rw (c.new.ensures.start, c.new.ensures.end, c.new.ensures.exhausted) (within 1 64 c.args.n)

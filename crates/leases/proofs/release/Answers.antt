@@ -3,30 +3,23 @@
 use mathlib.Core.Path.{refl}
 use native.Mathlib.Omega.{arith}
 use borrow.Author.Tests.{eq-eqb, ne_eqb}
+use lib.ListN.{get_or}
 use Rattle.leases.specs.Table.{returned}
-use Rattle.leases.proofs.Turns.{all_done, changed, kept}
+use Rattle.leases.proofs.Turns.{all_done, changed}
 use Rattle.leases.proofs.release.Goals as goal
-use Rattle.leases.proofs.release.Goals.{then-table-i, else-table-i}
+use Rattle.leases.proofs.release.Goals.{then-holder-t, else-holder-t}
 
-pub loop-i-init : goal.loop-i-init
-loop-i-init c = record { as_long = refl; within = omega arith; to-do = refl }
-
-pub loop-i-smaller : goal.loop-i-smaller
-loop-i-smaller c = omega arith
-
-pub loop-i-preserved : goal.loop-i-preserved
+pub loop-holder-preserved : goal.loop-holder-preserved
 unfolding returned
-loop-i-preserved c =
+loop-holder-preserved c =
     let t = c.args.t in
-    let v = c.loop-i in
-    elim c.if-table-i.branch [
-      | then-table-i w ↦ changed v.invariant (returned t) c.loop-i-test.true 0 w.table-is (λ rest. rw (eq-eqb _ _ w.if-table-i.true))
-      | else-table-i w ↦ kept v.invariant (returned t) c.loop-i-test.true w.table-is (λ rest. rw (ne_eqb _ _ w.if-table-i.false))
+    let v = c.loop-holder in
+    elim c.if-holder-t.branch [
+      | then-holder-t w ↦ changed v.invariant (returned t) (omega arith) 0 w.table-is (λ rest. rw (eq-eqb _ _ w.if-holder-t.true))
+      | else-holder-t w ↦
+          changed v.invariant (returned t) (omega arith) (get_or v.table v.holder-index 0) w.table-is (λ rest. rw (ne_eqb _ _ w.if-holder-t.false))
     ]
-
-pub shape_of-table : goal.shape_of-table
-shape_of-table c = c.loop-i.invariant.as_long
 
 pub returns : goal.returns
 unfolding returned
-returns c = all_done c.loop-i.invariant refl c.loop-i-test.false
+returns c = all_done c.loop-holder.invariant refl (omega arith)

@@ -1,74 +1,71 @@
--- `leases::slots_of` meets its contract: the slots from i on are in the number. Assumes nothing.
-use mathlib.Core.Path.{◌≡◌, sym, ap, ◌∙◌}
-use mathlib.Core.List.{List}
-use Prim.Native.Nat.{ℕ, suc, ◌+◌, ◌-◌, ◌*◌, ◌^◌, ◌≤◌, ◌<◌}
+-- `leases::slots_of` meets its contract: the slots below k are in the number. Assumes nothing.
+use mathlib.Core.Path.{◌≡◌, refl, ap, ◌∙◌}
+use mathlib.Core.Logic.{◌≢◌}
+use mathlib.Core.List.{List, [], ◌∷◌}
+use Prim.Native.Nat.{ℕ, zero, suc, ◌+◌, ◌*◌, ◌^◌, ◌<◌}
+use native.Mathlib.Nat.{pow-suc}
+use native.Mathlib.Numerals.{add-one}
 use native.Mathlib.Omega.{arith}
+use borrow.Author.Tests.{eq-eqb, ne_eqb}
 use lib.Dec.{eqb}
-use lib.ListN.{length, get_or, drop, length-drop, length-map, drop_of_length-le}
 use lib.Pow.{pow_mono}
-use lib.Seq.{drop-cons}
+use lib.ListN.{length, get_or, take, length-map}
+use lib.Seq.{length-take-le, take_all}
 use Rattle.bits.specs.Row.{digit, little}
-use Rattle.bits.proofs.Digits.{digit_lt}
 use Rattle.bits.proofs.Rows.{little-lt}
+use Rattle.bits.proofs.Windows.{one_shl}
 use Rattle.leases.specs.Table.{row_of, slots_of}
 use Rattle.leases.proofs.slots_of.Goals as goal
+use Rattle.leases.proofs.slots_of.Goals.{then-slot-t, else-slot-t}
 
-none_yet : (t : ℕ) (table : List ℕ) → 0 ≡ slots_of t (drop (length table) table)
+-- one slot more, above those that are there
+more : (t k : ℕ) (table : List ℕ) → k < length table
+    → slots_of t (take k table) + digit (eqb (get_or table k 0) t) * 2 ^ k ≡ slots_of t (take (suc k) table)
 unfolding slots_of little
-none_yet t table = ap (slots_of t) (sym (drop_of_length-le table {i = length table} (omega arith)))
+more t k [] h = absurd (omega arith)
+more t zero (x ∷ table) h = omega arith
+more t (suc k) (x ∷ table) h =
+    let d : ℕ = digit (eqb (get_or table k 0) t) in
+    let twice : d * 2 ^ suc k ≡ 2 * (d * 2 ^ k) = rw (pow-suc 2 k) (omega arith) in
+    omega (arith, more t k table (omega arith), twice)
 
--- one slot more, below those that are there
-more : (t i : ℕ) (table : List ℕ) → i < length table
-    → slots_of t (drop (suc i) table) * 2 + digit (eqb (get_or table i 0) t) ≡ slots_of t (drop i table)
+module _ (t k : ℕ) (table : List ℕ) (h : k < length table) where
+  own : get_or table k 0 ≡ t → slots_of t (take k table) + 2 ^ k ≡ slots_of t (take (suc k) table)
+  own e = omega (arith, rw (eq-eqb (get_or table k 0) t e) at (more t k table h))
+
+  other : get_or table k 0 ≢ t → slots_of t (take k table) ≡ slots_of t (take (suc k) table)
+  other d = omega (arith, rw (ne_eqb (get_or table k 0) t d) at (more t k table h))
+
+  -- k slots make a number below 2 ^ k
+  small : slots_of t (take k table) < 2 ^ k
+  unfolding slots_of
+  small = rw (length-map (take k table) (λ x. eqb x t), length-take-le k table (omega arith)) at (little-lt (row_of t (take k table)))
+
+pub loop-k-init : goal.loop-k-init
 unfolding slots_of little
-more t i table h = rw (drop-cons table i 0 h) (omega arith)
+loop-k-init c = refl
 
--- n slots make a number below 2 ^ n
-small : (t i : ℕ) (table : List ℕ) → length table ≤ 64 → 0 < i → slots_of t (drop i table) < 2 ^ 63
-unfolding slots_of
-small t i table h z =
-    let n : length (row_of t (drop i table)) ≡ length table - i = length-map (drop i table) (λ x. eqb x t) ∙ length-drop i table in
-    omega (arith, rw n at (little-lt (row_of t (drop i table))), pow_mono {i = length table - i} {j = 63} (omega arith))
-
-pub loop-i-init : goal.loop-i-init
-loop-i-init c = (omega arith, none_yet c.args.t c.args.table.now)
-
-pub overflow_mul-m : goal.overflow_mul-m
-overflow_mul-m c =
-    let a = c.args in
-    let v = c.loop-i in
-    omega (arith, v.invariant.1, small a.t v.i a.table.now c.requires c.loop-i-test.true)
-
-pub overflow_add-m : goal.overflow_add-m
-overflow_add-m c =
-    let a = c.args in
-    let v = c.loop-i in
-    let k = v.i - 1 in
+pub overflow_add-slots : goal.overflow_add-slots
+overflow_add-slots c =
+    let v = c.loop-k in
     omega (
       arith,
-      v.invariant.1,
-      c.is_of.ensures,
-      digit_lt (eqb (get_or a.table.now k 0) a.t),
-      small a.t v.i a.table.now c.requires c.loop-i-test.true,
+      v.invariant,
+      one_shl 64 v.k (omega arith),
+      small c.args.t v.k c.args.table.now (omega arith),
+      pow_mono {i = v.k} {j = 63} (omega arith),
     )
 
--- the number after this turn
-next : (t i m d : ℕ) (table : List ℕ) → 0 < i → i ≤ length table → m ≡ slots_of t (drop i table) → d ≡ digit (eqb (get_or table (i - 1) 0) t)
-    → m * 2 + d ≡ slots_of t (drop (i - 1) table)
-next t i m d table z h e is =
-    let n : i ≡ suc (i - 1) = omega (arith, z) in
-    ap (λ (x : ℕ). m * 2 + x) is
-    ∙ ap (λ (x : ℕ). x * 2 + digit (eqb (get_or table (i - 1) 0) t)) (e ∙ ap (λ (k : ℕ). slots_of t (drop k table)) n)
-    ∙ more t (i - 1) table (omega arith)
-
-pub loop-i-preserved : goal.loop-i-preserved
-loop-i-preserved c =
-    let a = c.args in
-    let v = c.loop-i in
-    (omega arith, next a.t v.i v.m c.is_of.result a.table.now c.loop-i-test.true v.invariant.0 v.invariant.1 c.is_of.ensures)
+pub loop-k-preserved : goal.loop-k-preserved
+loop-k-preserved c =
+    let t = c.args.t in
+    let table : List ℕ = c.args.table.now in
+    let v = c.loop-k in
+    rw add-one (elim c.if-slot-t.branch [
+      | then-slot-t w ↦ w.slots-is ∙ ap (λ (x : ℕ). v.slots + x) (one_shl 64 v.k (omega arith)) ∙ ap (λ (x : ℕ). x + 2 ^ v.k) v.invariant
+          ∙ own t v.k table (omega arith) w.if-slot-t.true
+      | else-slot-t w ↦ w.slots-is ∙ v.invariant ∙ other t v.k table (omega arith) w.if-slot-t.false
+    ])
 
 pub returns : goal.returns
-returns c =
-    let a = c.args in
-    let z : c.loop-i.i ≡ 0 = omega (arith, c.loop-i-test.false) in
-    c.loop-i.invariant.1 ∙ ap (λ (k : ℕ). slots_of a.t (drop k a.table.now)) z
+returns c = c.loop-k.invariant ∙ ap (slots_of c.args.t) (take_all c.loop-k.k c.args.table.now (omega arith))

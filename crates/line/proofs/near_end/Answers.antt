@@ -35,18 +35,18 @@ module _ (c : At-loop-i) where
   most = c.if-n-gt56.false
 
   octet-lt : get_or line (at / 8 + i) 0 < 256
-  octet-lt = omega (arith, c.shared_slice_known-1.given (at / 8 + i))
+  octet-lt = omega (arith, c.type_inv.line (at / 8 + i))
 
   -- before the last octet there are seven at most
   small : i < count → c.loop-i.v < 2 ^ 56
   small h =
       let k : i * 8 ≤ 56 = omega (arith, most) in
-      omega (arith, c.loop-i.invariant.1, window-lt (symbols line) (at / 8 * 8) (i * 8), pow_mono {i = i * 8} {j = 56} k)
+      omega (arith, c.loop-i.invariant, window-lt (symbols line) (at / 8 * 8) (i * 8), pow_mono {i = i * 8} {j = 56} k)
 
   next : (o : ℕ) → o ≡ get_or line (at / 8 + i) 0 → c.loop-i.v * 256 + o ≡ window (symbols line) (at / 8 * 8) ((i + 1) * 8)
   next o e =
       let m : i * 8 + 8 ≡ (i + 1) * 8 = omega arith in
-      ap₂ (λ (v x : ℕ). v * 256 + x) c.loop-i.invariant.1 e
+      ap₂ (λ (v x : ℕ). v * 256 + x) c.loop-i.invariant e
       ∙ window-next line (at / 8 * 8) (i * 8) (at / 8 + i) (omega arith) octet-lt
       ∙ ap (window (symbols line) (at / 8 * 8)) m
 
@@ -55,7 +55,7 @@ module _ (c : At-loop-i) where
   done e =
       let p : at / 8 * 8 + at % 8 ≡ at = omega arith in
       let q : c.loop-i.v ≡ window (symbols line) (at / 8 * 8) (count * 8) =
-      c.loop-i.invariant.1 ∙ ap (λ (k : ℕ). window (symbols line) (at / 8 * 8) (k * 8)) e in
+      c.loop-i.invariant ∙ ap (λ (k : ℕ). window (symbols line) (at / 8 * 8) (k * 8)) e in
       ap₂ (λ (v d : ℕ). v / 2 ^ (count * 8 - (at % 8 + n)) % d) q (one_shl 64 n (omega (arith, most)))
       ∙ rw (le-leb n 56 most) (rw p at (window-inside (symbols line) (at / 8 * 8) (count * 8) (at % 8) n (omega arith)))
 
@@ -63,50 +63,20 @@ pub returns-then-n-gt56 : goal.returns-then-n-gt56
 unfolding loaded
 returns-then-n-gt56 c = rw (lt-leb c.args.n 56 c.if-n-gt56.true)
 
-pub overflow_add-count : goal.overflow_add-count
-overflow_add-count c = omega arith
-
-pub overflow_add-count-2 : goal.overflow_add-count-2
-overflow_add-count-2 c = omega arith
-
 pub loop-i-init : goal.loop-i-init
 unfolding window part big
-loop-i-init c = (omega arith, refl)
+loop-i-init c = refl
 
 pub overflow_mul-v : goal.overflow_mul-v
 overflow_mul-v c = omega (arith, small (goal.at.overflow_mul-v c).At-loop-i c.loop-i-test.true)
-
-pub overflow_add-start : goal.overflow_add-start
-overflow_add-start c = omega arith
 
 pub overflow_add-v : goal.overflow_add-v
 overflow_add-v c =
     let p = (goal.at.overflow_add-v c).At-loop-i in
     omega (arith, small p c.loop-i-test.true, c.octet_at.ensures, octet-lt p)
 
-pub overflow_add-i : goal.overflow_add-i
-overflow_add-i c = omega arith
-
-pub loop-i-smaller : goal.loop-i-smaller
-loop-i-smaller c = omega arith
-
 pub loop-i-preserved : goal.loop-i-preserved
-loop-i-preserved c = (omega arith, next (goal.at.loop-i-preserved c).At-loop-i c.octet_at.result c.octet_at.ensures)
-
-pub overflow_mul-result : goal.overflow_mul-result
-overflow_mul-result c = omega arith
-
-pub overflow_add-result : goal.overflow_add-result
-overflow_add-result c = omega arith
-
-pub overflow_sub-result : goal.overflow_sub-result
-overflow_sub-result c = omega arith
-
-pub overflow_shr-result : goal.overflow_shr-result
-overflow_shr-result c = omega arith
-
-pub overflow_shl-result : goal.overflow_shl-result
-overflow_shl-result c = omega arith
+loop-i-preserved c = next (goal.at.loop-i-preserved c).At-loop-i c.octet_at.result c.octet_at.ensures
 
 pub nonzero_rem-result-2 : goal.nonzero_rem-result-2
 nonzero_rem-result-2 c = rw (one_shl 64 (n (goal.at.nonzero_rem-result-2 c).At-loop-i) (omega arith)) (pow_pos (n (goal.at.nonzero_rem-result-2 c).At-loop-i))

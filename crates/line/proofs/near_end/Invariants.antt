@@ -1,12 +1,9 @@
 -- `line::near_end` meets its contract: the octets passed are a window of the line's symbols. Assumes nothing.
 use mathlib.Core.Path.{◌≡◌}
-use Prim.Native.Nat.{◌-◌, ◌*◌, ◌≤◌}
+use Prim.Native.Nat.{◌*◌}
 use Rattle.bits.specs.Window.{window}
 use Rattle.bits.specs.Pack.{symbols}
 use Rattle.line.proofs.near_end.Given as goal
 
 abbrev pub invariant-loop-i : goal.invariant-loop-i
-invariant-loop-i l = (l.i ≤ l.count) × (l.v ≡ window (symbols l.line) (l.start * 8) (l.i * 8))
-
-abbrev pub decreases-loop-i : goal.decreases-loop-i
-decreases-loop-i l = l.count - l.i
+invariant-loop-i l = l.v ≡ window (symbols l.line) (l.start * 8) (l.i * 8)

@@ -17,12 +17,6 @@ returns-then-line-lt8 c =
     let a = c.args in
     rw (lt-leb (a.j + 8) (length a.line.now) (omega arith))
 
-pub returns-then-line-j : goal.returns-then-line-j
-unfolding word_at
-returns-then-line-j c =
-    let a = c.args in
-    rw (lt-leb (a.j + 8) (length a.line.now) (omega arith))
-
 sides : (c : After-four-low)
     → c.four-high.result * 2 ^ 32 + c.four-low.result
     ≡ window (symbols c.args.line.now) (c.args.j * 8) 64

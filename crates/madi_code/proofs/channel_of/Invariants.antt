@@ -8,6 +8,3 @@ use Rattle.madi_code.proofs.channel_of.Given as goal
 
 abbrev pub invariant-loop-g : goal.invariant-loop-g
 invariant-loop-g l = (l.g ≤ 8) × (l.w < 2 ^ (4 * l.g)) × (channel_from (big_bits 40 l.v) (8 - l.g) l.g l.w ≡ channel_of (big_bits 40 l.v))
-
-abbrev pub decreases-loop-g : goal.decreases-loop-g
-decreases-loop-g l = 8 - l.g

@@ -19,22 +19,19 @@ right : (codes : List ℕ) (x : ℕ) → codes ≡ group_codes → x < 16 → ge
 unfolding group_code
 right codes x e h = ap (λ (l : List ℕ). get_or l (get_or turns x 0) 0) e ∙ ap (λ (d : ℕ). get_or group_codes d 0) (turns-right x h)
 
-pub overflow_cast-table : goal.overflow_cast-table
-overflow_cast-table c = let x = c.loop-x.x in omega (arith, turns-right x (omega arith), place-lt x)
-
-pub bounds-codes-turned : goal.bounds-codes-turned
-bounds-codes-turned c = let x = c.loop-x.x in omega (arith, turns-right x (omega arith), place-lt x)
+pub bounds-codes-from : goal.bounds-codes-from
+bounds-codes-from c = let x = c.loop-x.x in omega (arith, turns-right x (omega arith), place-lt x)
 
 pub loop-x-preserved : goal.loop-x-preserved
 loop-x-preserved c =
     let l = c.loop-x in
     let g = c.group_codes-codes in
-    let v = get_or g.result (get_or turns l.x 0) 0 in (
+    let v = get_or g.result c.from.result 0 in (
       omega arith,
       length-set l.table l.x v ∙ l.invariant.1,
       λ k h. ⊎_elim (λ (q : l.x ≤ k). let e : l.x ≡ k = omega arith in
           subst (λ (i : ℕ). get_or (set l.table l.x v) i 0 ≡ group_code (big (bits 4 i))) e
-          (get_or-set_same l.table l.x v 0 (omega arith) ∙ right g.result l.x g.ensures (omega arith)))
+          (get_or-set_same l.table l.x v 0 (omega arith) ∙ ap (λ (d : ℕ). get_or g.result d 0) c.from.ensures ∙ right g.result l.x g.ensures (omega arith)))
           (λ (q : k < l.x). get_or-set_other l.table l.x k v 0 (λ e. absurd (omega arith)) ∙ l.invariant.2 k q) (order l.x k),
     )
 

@@ -1,12 +1,18 @@
 -- `madi_code::is_counted` meets its contract. Assumes nothing.
-use borrow.Author.Tests.{eq-eqb, ne_eqb}
+use mathlib.Core.Path.{◌≡◌}
+use mathlib.Core.Logic.{⊎_elim}
+use Prim.Native.Nat.{ℕ}
+use native.Mathlib.Omega.{arith}
+use borrow.Author.Tests.{ne_eqb}
+use Rattle.std.proofs.lemmas.Bool.Decides.{nat_tests}
 use Rattle.madi_code.specs.Frame.{counted}
 use Rattle.madi_code.proofs.is_counted.Goals as goal
 
-pub returns-then-channels-eq56 : goal.returns-then-channels-eq56
+pub returns-in-56 : goal.returns-in-56
 unfolding counted
-returns-then-channels-eq56 c = rw (eq-eqb _ _ c.if-channels-eq56.true)
+returns-in-56 c = let n : ℕ = c.args.channels in ⊎_elim (λ (e : n ≡ 56). rw e) (λ (e : n ≡ 64). rw e) c.in-56.is
 
-pub returns : goal.returns
+pub returns-in_default : goal.returns-in_default
 unfolding counted
-returns c = rw (ne_eqb _ _ c.if-channels-eq56.false)
+returns-in_default c =
+    rw (ne_eqb c.args.channels 56 (grind (arith, nat_tests)), ne_eqb c.args.channels 64 (grind (arith, nat_tests)))

@@ -1,53 +1,21 @@
--- `madi_patch::as_long` meets its contract, length by length. Assumes nothing.
-use borrow.Author.Tests.{eq-eqb, ne_eqb}
+-- `madi_patch::as_long` meets its contract: the definition is that each passes the test. Assumes nothing.
+use mathlib.Core.Path.{◌≡◌, refl, ap, ◌∙◌}
+use mathlib.Core.Bool.{Bool, ◌&&◌}
+use mathlib.Core.List.{List, [], ◌∷◌}
+use Prim.Native.Nat.{ℕ}
+use lib.Dec.{eqb}
+use Rattle.std.proofs.Common.{rules, tests}
+use Rattle.std.specs.List.{list_all}
+use Rattle.std.proofs.lemmas.Iterator.{YieldsList-from_slice}
+use Rattle.std.proofs.lemmas.Iterator.Search.{all_from_yields_List}
+use Rattle.madi_patch.specs.Patch.{as_long}
 use Rattle.madi_patch.proofs.as_long.Goals as goal
 
-pub returns-then-a-channels : goal.returns-then-a-channels
-returns-then-a-channels c = rw (ne_eqb _ _ c.if-a-channels.true)
-
-pub returns-then-b-channels : goal.returns-then-b-channels
-returns-then-b-channels c = rw (eq-eqb _ _ c.if-a-channels.false, ne_eqb _ _ c.if-b-channels.true)
-
-pub returns-then-c-channels : goal.returns-then-c-channels
-returns-then-c-channels c = rw (eq-eqb _ _ c.if-a-channels.false, eq-eqb _ _ c.if-b-channels.false, ne_eqb _ _ c.if-c-channels.true)
-
-pub returns-then-d-channels : goal.returns-then-d-channels
-returns-then-d-channels c =
-    rw (
-      eq-eqb _ _ c.if-a-channels.false,
-      eq-eqb _ _ c.if-b-channels.false,
-      eq-eqb _ _ c.if-c-channels.false,
-      ne_eqb _ _ c.if-d-channels.true,
-    )
-
-pub returns-then-e-channels : goal.returns-then-e-channels
-returns-then-e-channels c =
-    rw (
-      eq-eqb _ _ c.if-a-channels.false,
-      eq-eqb _ _ c.if-b-channels.false,
-      eq-eqb _ _ c.if-c-channels.false,
-      eq-eqb _ _ c.if-d-channels.false,
-      ne_eqb _ _ c.if-e-channels.true,
-    )
-
-pub returns-then-f-channels : goal.returns-then-f-channels
-returns-then-f-channels c =
-    rw (
-      eq-eqb _ _ c.if-a-channels.false,
-      eq-eqb _ _ c.if-b-channels.false,
-      eq-eqb _ _ c.if-c-channels.false,
-      eq-eqb _ _ c.if-d-channels.false,
-      eq-eqb _ _ c.if-e-channels.false,
-      ne_eqb _ _ c.if-f-channels.true,
-    )
+all-long : (n : ℕ) (ns : List ℕ) → list_all (λ m. eqb m n) ns ≡ as_long n ns
+all-long n [] = refl
+all-long n (m ∷ ns) = ap (λ (t : Bool). eqb m n && t) (all-long n ns)
 
 pub returns : goal.returns
 returns c =
-    rw (
-      eq-eqb _ _ c.if-a-channels.false,
-      eq-eqb _ _ c.if-b-channels.false,
-      eq-eqb _ _ c.if-c-channels.false,
-      eq-eqb _ _ c.if-d-channels.false,
-      eq-eqb _ _ c.if-e-channels.false,
-      eq-eqb _ _ c.if-f-channels.false,
-    )
+    all_from_yields_List (λ m. eqb m c.args.channels) _ _ c.all.result c.all.ensures.ran (YieldsList-from_slice c.args.lengths cc)
+    (λ x b q k. search (rules, tests)) ∙ all-long c.args.channels c.args.lengths

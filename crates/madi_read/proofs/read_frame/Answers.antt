@@ -17,7 +17,7 @@ use Rattle.madi_code.specs.Frame.{counted}
 use Rattle.madi_code.proofs.FrameLaws.{counted-le}
 use Rattle.madi_read.specs.Reader.{carried, row_read, read_demands, frame_read, counts_of, words_of, commands_of}
 use Rattle.madi_read.proofs.read_frame.Goals as goal
-use Rattle.madi_read.proofs.read_frame.Goals.{Start, Then-lengths_right, Then-numbers_right}
+use Rattle.madi_read.proofs.read_frame.Goals.{Start, Else-not-lengths_right, Else-not-numbers_right}
 
 abbrev demands : Start → List Demand
 demands s =
@@ -38,65 +38,68 @@ one-fails number true false c ds e = later refl (fails refl)
 one-fails number true true false ds e = later refl (later refl (fails refl))
 one-fails number true true true ds e = no-yes true e refl
 
-numbers : (c : Then-numbers_right)
-    → let a = c.args in
+numbers : (c : Else-not-numbers_right) → let a = c.args in
     (counted a.channels ≡ true) × (leb a.level 1 ≡ true) × (leb a.bits 5110 ≡ true)
 numbers c =
-    let h = both_true _ _ (sym c.numbers_right.ensures ∙ c.if-numbers_right.true) in
+    let h = both_true _ _ (sym c.numbers_right.ensures ∙ c.if-not-numbers_right.false) in
     let k = both_true _ _ h.1 in
     (h.0, k.0, k.1)
 
-lengths : (c : Then-lengths_right)
-    → let a = c.args in
+lengths : (c : Else-not-lengths_right) → let a = c.args in
     (eqb (length a.line.now) ((a.bits + 7) / 8) ≡ true) × (eqb (length a.words.now) a.channels ≡ true)
     × (eqb (length a.commands.now) 255 ≡ true)
 lengths c =
-    let h = both_true _ _ (sym c.lengths_right.ensures ∙ c.if-lengths_right.true) in
+    let h = both_true _ _ (sym c.lengths_right.ensures ∙ c.if-not-lengths_right.false) in
     let k = both_true _ _ h.1 in
     (h.0, k.0, k.1)
 
-pub lengths_right-requires : goal.lengths_right-requires
-lengths_right-requires c = leb-true _ 5110 (numbers c).2
+pub returns-then-not-numbers_right : goal.returns-then-not-numbers_right
+returns-then-not-numbers_right c =
+    let both = refuses (goal.at.returns-then-not-numbers_right c).Start (one-fails 2 _ _ _ _ (sym c.numbers_right.ensures ∙ c.if-not-numbers_right.true)) in
+    record { result_value = both.0; words_after = both.1.0; commands_after = both.1.1 }
+
+pub returns-then-not-lengths_right : goal.returns-then-not-lengths_right
+returns-then-not-lengths_right c =
+    let n = numbers (goal.at.returns-then-not-lengths_right c).Else-not-numbers_right in
+    let both = refuses (goal.at.returns-then-not-lengths_right c).Start
+    (later n.0 (later n.1 (later n.2 (one-fails 1 _ _ _ _ (sym c.lengths_right.ensures ∙ c.if-not-lengths_right.true))))) in
+    record { result_value = both.0; words_after = both.1.0; commands_after = both.1.1 }
 
 pub spare_zero-requires : goal.spare_zero-requires
-spare_zero-requires c = (leb-true _ 5110 (numbers (goal.at.spare_zero-requires c).Then-numbers_right).2, eqb-true _ _ (lengths c).0)
+spare_zero-requires c = (leb-true _ 5110 (numbers (goal.at.spare_zero-requires c).Else-not-numbers_right).2, eqb-true _ _ (lengths c).0)
+
+pub returns-then-not-spare_zero : goal.returns-then-not-spare_zero
+returns-then-not-spare_zero c =
+    let l = lengths (goal.at.returns-then-not-spare_zero c).Else-not-lengths_right in
+    let n = numbers (goal.at.returns-then-not-spare_zero c).Else-not-numbers_right in
+    let both = refuses (goal.at.returns-then-not-spare_zero c).Start
+    (later n.0 (later n.1 (later n.2 (later l.0 (later l.1 (later l.2 (fails (sym c.spare_zero.ensures ∙ c.if-not-spare_zero.true)))))))) in
+    record { result_value = both.0; words_after = both.1.0; commands_after = both.1.1 }
+
+pub invariant_of-source : goal.invariant_of-source
+invariant_of-source c =
+    let n = numbers (goal.at.invariant_of-source c).Else-not-numbers_right in
+    let octets = eqb-true _ _ (lengths (goal.at.invariant_of-source c).Else-not-lengths_right).0 in
+    record {
+      digital = leb-true _ 1 n.1;
+      short = leb-true _ 5110 n.2;
+      long = omega (arith, octets);
+      most = counted-le _ n.0;
+      means = c.meanings.ensures;
+    }
 
 pub read_checked-requires : goal.read_checked-requires
 read_checked-requires c =
-    let l = (goal.at.read_checked-requires c).Then-lengths_right in
-    let n = numbers (goal.at.read_checked-requires c).Then-numbers_right in
-    let a = l.args in
-    let exact : length a.line.now ≡ (a.bits + 7) / 8 = eqb-true _ _ (lengths l).0 in
-    (leb-true _ 1 n.1, leb-true _ 5110 n.2, omega (arith, exact), counted-le _ n.0, eqb-true _ _ (lengths l).1, eqb-true _ 255 (lengths l).2)
-
-pub returns-then-spare_zero : goal.returns-then-spare_zero
-unfolding frame_read
-returns-then-spare_zero c =
-    let l = (goal.at.returns-then-spare_zero c).Then-lengths_right in
-    let n = numbers (goal.at.returns-then-spare_zero c).Then-numbers_right in
-    let s = (goal.at.returns-then-spare_zero c).Start in
-    let m : AllMet (demands s) =
-    n.0 & n.1 & n.2 & (lengths l).0 & (lengths l).1 & (lengths l).2 & (sym c.spare_zero.ensures ∙ c.if-spare_zero.true) & tt in
-    rw (passing (row_read (carried s.args.level s.args.bits s.args.line.now) s.args.channels) (demands s) m)
-    c.read_checked.ensures
-
-pub returns-then-lengths_right : goal.returns-then-lengths_right
-returns-then-lengths_right c =
-    let l = (goal.at.returns-then-lengths_right c).Then-lengths_right in
-    let n = numbers (goal.at.returns-then-lengths_right c).Then-numbers_right in
-    let both = refuses (goal.at.returns-then-lengths_right c).Start
-    (later n.0 (later n.1 (later n.2 (later (lengths l).0 (later (lengths l).1 (later (lengths l).2 (fails (sym c.spare_zero.ensures ∙ c.if-spare_zero.false)))))))) in
-    record { result_value = both.0; words_after = both.1.0; commands_after = both.1.1 }
-
-pub returns-then-numbers_right : goal.returns-then-numbers_right
-returns-then-numbers_right c =
-    let t = (goal.at.returns-then-numbers_right c).Then-numbers_right in
-    let n = numbers t in
-    let both = refuses (goal.at.returns-then-numbers_right c).Start
-    (later n.0 (later n.1 (later n.2 (one-fails 1 _ _ _ _ (sym c.lengths_right.ensures ∙ c.if-lengths_right.false))))) in
-    record { result_value = both.0; words_after = both.1.0; commands_after = both.1.1 }
+    let l = lengths (goal.at.read_checked-requires c).Else-not-lengths_right in
+    (eqb-true _ _ l.1, eqb-true _ 255 l.2)
 
 pub returns : goal.returns
+unfolding frame_read
 returns c =
-    let both = refuses (goal.at.returns c).Start (one-fails 2 _ _ _ _ (sym c.numbers_right.ensures ∙ c.if-numbers_right.false)) in
-    record { result_value = both.0; words_after = both.1.0; commands_after = both.1.1 }
+    let l = lengths (goal.at.returns c).Else-not-lengths_right in
+    let n = numbers (goal.at.returns c).Else-not-numbers_right in
+    let s = (goal.at.returns c).Start in
+    let m : AllMet (demands s) =
+    n.0 & n.1 & n.2 & l.0 & l.1 & l.2 & (sym c.spare_zero.ensures ∙ c.if-not-spare_zero.false) & tt in
+    rw (passing (row_read (carried s.args.level s.args.bits s.args.line.now) s.args.channels) (demands s) m)
+    c.read_checked.ensures

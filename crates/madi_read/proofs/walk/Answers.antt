@@ -3,44 +3,32 @@ use mathlib.Core.Path.{◌≡◌, sym, ap, ◌∙◌, subst}
 use mathlib.Core.List.{List, [], ◌∷◌, ◌++◌}
 use Prim.Native.Nat.{ℕ, ◌+◌, ◌-◌, ◌/◌, ◌%◌, ◌^◌, ◌≤◌, ◌<◌}
 use native.Mathlib.Numerals.{add-one}
-use native.Mathlib.Nat.{sub-zero}
 use native.Mathlib.Omega.{arith}
-use borrow.Author.Rules.{rules}
 use lib.ListN.{length, take, set, length-set, length-append}
 use lib.Seq.{take-suc-set}
+use Rattle.std.specs.Prelude.{Ok}
+use Rattle.std.proofs.lemmas.Result.{err_from_is_err_and}
 use Rattle.bits.specs.Row.{Row}
-use Rattle.answer.specs.Answer.{Answer, Answer.accepted, mapped}
-use Rattle.madi_code.proofs.TableLaws.{meanings-mean}
+use Rattle.answer.specs.Answer.{Answer, Answer.accepted, Answer.refused, mapped}
+use Rattle.answer.specs.Said.{said, number_of, place_of}
 use Rattle.madi_code.specs.Frame.{boundary}
-use Rattle.madi_read.specs.Reader.{carried, Frame, cleared, piece_at, onward, read_on, row_read, counts_of}
-use Rattle.madi_read.specs.Inner.{sofar, Listed, Held}
+use Rattle.madi_read.specs.Reader.{Frame, cleared, at_start, onward, read_on, row_read, counts_of}
+use Rattle.madi_read.specs.Inner.{sofar, row_of, frame_of, Fits, Held, Reached}
 use Rattle.madi_read.specs.declared.Piece.{Piece}
+use Rattle.madi_read.specs.declared.SoFar.{SoFar}
 use Rattle.madi_read.specs.declared.Piece.TheVariants.{End, Command, Channel}
-use Rattle.madi_read.specs.declared.Piece.TheVariants.{Refused as NoPiece}
 use Rattle.madi_read.proofs.Carrying.{length-carried}
 use Rattle.madi_read.proofs.Copying.{length-listed, listed_next, listed_more}
-use Rattle.madi_read.proofs.Walking.{Room, room, read_step, piece-any}
+use Rattle.madi_read.proofs.Walking.{Room, room, read_step, from_start}
 use Rattle.madi_read.proofs.walk.Goals as goal
-use Rattle.madi_read.proofs.walk.Goals.{After-commands_on-s}
+use Rattle.madi_read.proofs.walk.Goals.{After-piece_at}
 
 -- ---- numbers, by themselves
 fits-octet : (k : ℕ) → k < 16 → k < 2 ^ 8
 fits-octet k h = omega arith
 
-fits-index : (s : ℕ) → s ≤ 255 → s < 2 ^ 64
-fits-index s h = omega arith
-
-fits_next : (s : ℕ) → s ≤ 255 → s + 1 < 2 ^ 32
-fits_next s h = omega arith
-
-in_list : (m s n : ℕ) → m < 255 → m ≡ s → n ≡ 255 → s < n
-in_list m s n h e f = omega arith
-
-at_most : (s n : ℕ) → s ≤ 255 → n ≡ 255 → s ≤ n
-at_most s n h e = omega arith
-
-more : (m s : ℕ) → m < 255 → m ≡ s → s + 1 ≤ 255
-more m s h e = omega arith
+in_list : (m s : ℕ) → m < 255 → m ≡ s → s < 255
+in_list m s h e = omega arith
 
 within : (n m s len bits : ℕ) → boundary n m + 10 ≤ len → m ≡ s → len ≡ bits → boundary n (s + 1) ≤ bits
 within n m s len bits h e f = omega arith
@@ -51,175 +39,153 @@ less o n s bits h e = omega arith
 fuel-left : (channels n m k : ℕ) → k ≡ m + 1 → channels + 256 - (n + k) ≡ channels + 256 - (n + m + 1)
 fuel-left channels n m k e = omega arith
 
-pub loop-c-init : goal.loop-c-init
-unfolding row_read
-loop-c-init c = (search rules, search rules, search rules, search rules, search rules, c.requires.5, rw sub-zero)
-
-pub channels_on-m-requires : goal.channels_on-m-requires
-channels_on-m-requires c = (meanings-mean _ c.meanings-table.ensures, search rules, search rules, search rules, search rules, search rules, search rules, search rules, search rules)
-
-pub commands_on-s-requires : goal.commands_on-s-requires
-commands_on-s-requires c = (search rules, search rules, search rules, search rules, search rules, search rules, c.channels_on-m.ensures.2, c.loop-c.invariant.5)
-
--- the channel count and the active count after channels on end, and the words
-abbrev count : After-commands_on-s → ℕ
-count d = d.channels_on-m.result
-
-abbrev live : After-commands_on-s → ℕ
-live d = d.loop-c.active + (count d - d.loop-c.n)
-
-abbrev kept : After-commands_on-s → List ℕ
-kept d = d.channels_on-m.new.held
-
--- the commands
-abbrev codes : After-commands_on-s → List ℕ
-codes d = d.commands_on-s.new.codes
-
-abbrev came : After-commands_on-s → List ℕ
-came d = take d.commands_on-s.result (codes d)
-
-abbrev row : After-commands_on-s → Row
-row d = let a = d.args in carried a.level a.bits a.line.now
-
-abbrev all : After-commands_on-s → ℕ
-all d = d.args.channels
-
--- the frame so far
-abbrev frame : After-commands_on-s → Frame
-frame d = sofar (count d) (live d) (came d) (take (count d) (kept d))
-
 -- after channels and commands on end all stands as at the head of the loop
-record Stands (d : After-commands_on-s) : Type 0 where
-  most : count d ≤ all d
-  few : d.commands_on-s.result ≤ 255
-  inside : boundary (count d) d.commands_on-s.result ≤ d.args.bits
-  further : boundary d.loop-c.n d.loop-c.s ≤ boundary (count d) d.commands_on-s.result
-  actives : live d ≤ count d
-  long : length (kept d) ≡ 64
-  list : Listed d.commands_on-s.result (codes d)
-  many : length (came d) ≡ d.commands_on-s.result
-  reads : read_on (row d) (all d) (all d + 256 - (count d + length (came d))) (frame d) ≡ row_read (row d) (all d)
+module _ (d : After-piece_at) where
+  abbrev row : Row
+  row = row_of d.args.source.now
 
-stands : (d : After-commands_on-s) → Stands d
-stands d =
-    let l = d.loop-c in
-    let h = d.channels_on-m.ensures in
-    let t = d.commands_on-s.ensures in
+  abbrev all : ℕ
+  all = d.args.source.now.channels
+
+  abbrev got : SoFar
+  got = d.commands_on.new.so_far
+
+  abbrev came : List ℕ
+  came = take got.commands got.codes
+
+  fits : Fits d.args.source.now got
+  fits = d.commands_on.ensures.fits
+
+  many : length came ≡ got.commands
+  many = length-listed got.commands got.codes fits.5 fits.2
+
+  further : boundary d.loop-c.so_far.channels d.loop-c.so_far.commands ≤ boundary got.channels got.commands
+  further = omega (arith, d.channels_on.ensures.further, d.channels_on.ensures.same_commands, d.commands_on.ensures.same_channels, d.commands_on.ensures.further)
+
+  reads : Reached row all at_start (frame_of got)
+  reads = d.commands_on.ensures.reached ∙ d.channels_on.ensures.reached ∙ d.loop-c.invariant.1
+
+  width : length row ≡ d.args.source.now.bits
+  width = let s = d.args.source.now in length-carried s.level s.bits s.line.now
+
+  -- what a piece says of the room around it, and how the definition's reading goes on
+  step : (p : Answer Piece) → said d.piece_at.result ≡ p
+      → Room row all (frame_of got) p
+      × (onward (read_on row all (all + 256 - (got.channels + length came + 1))) (frame_of got) p ≡ row_read row all)
+  step p e =
+      let q = sym d.piece_at.ensures ∙ e in (
+        subst (Room row all (frame_of got)) q (room row all (frame_of got)),
+        sym (read_step row all (frame_of got) fits.0 (subst (λ (m : ℕ). m ≤ 255) (sym many) fits.2) p q) ∙ reads ∙ sym (from_start row all),
+      )
+
+pub returns-in_err-piece_at : goal.returns-in_err-piece_at
+returns-in_err-piece_at c =
+    let d = (goal.at.returns-in_err-piece_at c).After-piece_at in
+    let exit = err_from_is_err_and c.from_residual.result c.from_residual.ensures.1 in
+    let why = c.in_err-piece_at.field-0.0 in
+    let q = step d (refused (number_of why) (place_of why)) (ap said c.in_err-piece_at.was) in
     record {
-      most = h.1;
-      few = t.1;
-      inside = t.2;
-      further = omega (arith, h.0, t.0);
-      actives = omega (arith, h.0, l.invariant.3);
-      long = h.3;
-      list = t.3;
-      many = length-listed d.commands_on-s.result (codes d) t.3 t.1;
-      reads = t.4 (live d) (take (count d) (kept d)) ∙ h.4 (take l.s l.codes) (length-listed l.s l.codes l.invariant.5 l.invariant.1) ∙ l.invariant.6;
+      result_value = rw (exit.1, exit.2) (ap (mapped counts_of) q.1);
+      held = subst (λ (r : Answer Frame). Held (all d) r (got d).words (got d).codes) q.1 tt;
     }
-
-pub piece_at-p-requires : goal.piece_at-p-requires
-piece_at-p-requires c =
-    let d = (goal.at.piece_at-p-requires c).After-commands_on-s in
-    (meanings-mean _ d.meanings-table.ensures, c.requires.0, c.requires.1, c.requires.2, at_most _ _ (stands d).few (stands d).list.0, (stands d).inside)
-
-width : (d : After-commands_on-s) → length (row d) ≡ d.args.bits
-width d = let a = d.args in length-carried a.level a.bits a.line.now
-
--- what a piece that the code found says: the room around it, and how the definition's reading goes on
-step : (d : After-commands_on-s) (p : Piece)
-    → piece_at (row d) (all d) (sofar (count d) (live d) (came d) []) ≡ p
-    → Room (row d) (all d) (frame d) p
-    × (onward (read_on (row d) (all d) (all d + 256 - (count d + length (came d) + 1))) (frame d) p ≡ row_read (row d) (all d))
-step d p e =
-    let g = stands d in
-    let q = piece-any (row d) (all d) (count d) (live d) (came d) (take (count d) (kept d)) ∙ e in (
-      subst (Room (row d) (all d) (frame d)) q (room (row d) (all d) (frame d)),
-      sym (read_step (row d) (all d) (frame d) g.most (subst (λ (m : ℕ). m ≤ 255) (sym g.many) g.few) p q) ∙ g.reads,
-    )
 
 pub returns-in-End : goal.returns-in-End
 returns-in-End c =
-    let d = (goal.at.returns-in-End c).After-commands_on-s in
-    let g = stands d in
-    let q = step (goal.at.returns-in-End c).After-commands_on-s End (sym c.piece_at-p.ensures ∙ c.in-End.is) in record { result_value = ap (λ (k : ℕ). accepted (live d, k)) (sym g.many) ∙ ap (mapped counts_of) q.1; held = subst (λ (r : Answer Frame). Held (all d) r (kept d) (codes d)) q.1 (ap (λ (k : ℕ). take k (kept d)) (sym q.0.0), g.list.1) }
+    let d = (goal.at.returns-in-End c).After-piece_at in
+    let q = step d (accepted End) (ap said (c.in_ok-piece_at.was ∙ ap Ok c.in-End.is)) in
+    record {
+      result_value = ap (λ (k : ℕ). accepted ((got d).active, k)) (sym (many d)) ∙ ap (mapped counts_of) q.1;
+      held = subst (λ (r : Answer Frame). Held (all d) r (got d).words (got d).codes) q.1
+          (ap (λ (k : ℕ). take k (got d).words) (sym q.0.0), (fits d).5.1);
+    }
 
 -- a command more
-pub overflow_cast-codes : goal.overflow_cast-codes
-overflow_cast-codes c = record { fits = fits-octet _ (step (goal.at.overflow_cast-codes c).After-commands_on-s (Command c.in-Command.c) (sym c.piece_at-p.ensures ∙ c.in-Command.is)).0.2 }
+module _ (d : After-piece_at) (k : ℕ) (is : said d.piece_at.result ≡ accepted (Command k)) where
+  place : Room (row d) (all d) (frame_of (got d)) (accepted (Command k))
+  place = (step d (accepted (Command k)) is).0
 
-pub overflow_cast-codes-in-Command : goal.overflow_cast-codes-in-Command
-overflow_cast-codes-in-Command c = record { fits = fits-index _ (stands (goal.at.overflow_cast-codes-in-Command c).After-commands_on-s).few }
+  fewer : (got d).commands < 255
+  fewer = in_list _ _ place.0 (many d)
 
-pub bounds-codes-s : goal.bounds-codes-s
-bounds-codes-s c = let g = stands (goal.at.bounds-codes-s c).After-commands_on-s in in_list _ _ _ (step (goal.at.bounds-codes-s c).After-commands_on-s (Command c.in-Command.c) (sym c.piece_at-p.ensures ∙ c.in-Command.is)).0.0 g.many g.list.0
+  -- the next boundary
+  command-fits : boundary (got d).channels ((got d).commands + 1) ≤ d.args.source.now.bits
+  command-fits = within _ _ _ _ _ place.1 (many d) (width d)
 
-pub overflow_add-s : goal.overflow_add-s
-overflow_add-s c = record { fits = fits_next _ (stands (goal.at.overflow_add-s c).After-commands_on-s).few }
+pub overflow_cast-so_far : goal.overflow_cast-so_far
+overflow_cast-so_far c =
+    let d = (goal.at.overflow_cast-so_far c).After-piece_at in
+    record { fits = fits-octet _ (place d c.in-Command.c (ap said (c.in_ok-piece_at.was ∙ ap Ok c.in-Command.is))).2 }
+
+pub bounds-so_far-so_far : goal.bounds-so_far-so_far
+bounds-so_far-so_far c =
+    fewer (goal.at.bounds-so_far-so_far c).After-piece_at c.in-Command.c (ap said (c.in_ok-piece_at.was ∙ ap Ok c.in-Command.is))
 
 pub loop-c-smaller-in-Command : goal.loop-c-smaller-in-Command
 loop-c-smaller-in-Command c =
-    let d = (goal.at.loop-c-smaller-in-Command c).After-commands_on-s in
-    let g = stands d in
-    less _ _ _ _ g.further (within _ _ _ _ _ (step (goal.at.loop-c-smaller-in-Command c).After-commands_on-s (Command c.in-Command.c) (sym c.piece_at-p.ensures ∙ c.in-Command.is)).0.1 g.many (width d))
+    let d = (goal.at.loop-c-smaller-in-Command c).After-piece_at in
+    less _ _ _ _ (further d) (command-fits d c.in-Command.c (ap said (c.in_ok-piece_at.was ∙ ap Ok c.in-Command.is)))
 
 pub loop-c-preserved-in-Command : goal.loop-c-preserved-in-Command
 loop-c-preserved-in-Command c =
-    let d = (goal.at.loop-c-preserved-in-Command c).After-commands_on-s in
-    let g = stands d in
+    let d = (goal.at.loop-c-preserved-in-Command c).After-piece_at in
     let k = c.in-Command.c in
-    let s = d.commands_on-s.result in
-    let q = step (goal.at.loop-c-preserved-in-Command c).After-commands_on-s (Command k) (sym c.piece_at-p.ensures ∙ c.in-Command.is) in
-    let fewer : s < 255 = subst (λ (m : ℕ). m < 255) g.many q.0.0 in
-    let fuel : all d + 256 - (count d + length (came d ++ (k ∷ []))) ≡ all d + 256 - (count d + length (came d) + 1) =
+    let is = ap said (c.in_ok-piece_at.was ∙ ap Ok c.in-Command.is) in
+    let few = fewer d k is in
+    let f = got d in
+    let n = f.channels in
+    let held : List ℕ = take n f.words in
+    let list = (fits d).5 in
+    let fuel : all d + 256 - (n + length (came d ++ (k ∷ []))) ≡ all d + 256 - (n + length (came d) + 1) =
     fuel-left _ _ _ _ (length-append (came d) (k ∷ [])) in (
-      g.most,
-      more _ _ q.0.0 g.many,
-      within _ _ _ _ _ q.0.1 g.many (width d),
-      g.actives,
-      g.long,
-      listed_more s (codes d) g.list k fewer,
-      ap (λ (cs : List ℕ). read_on (row d) (all d) (all d + 256 - (count d + length cs)) (sofar (count d) (live d) cs (take (count d) (kept d)))) (listed_next s (codes d) g.list k fewer)
-          ∙ ap (λ (j : ℕ). read_on (row d) (all d) j (sofar (count d) (live d) (came d ++ (k ∷ [])) (take (count d) (kept d)))) fuel ∙ q.1,
+      ((fits d).0, (fits d).1, omega arith, command-fits d k is, (fits d).4, listed_more f.commands f.codes list k few),
+      ap (λ (cs : List ℕ). read_on (row d) (all d) (all d + 256 - (n + length cs)) (sofar n f.active cs held)) (listed_next f.commands f.codes list k few)
+          ∙ ap (λ (j : ℕ). read_on (row d) (all d) j (sofar n f.active (came d ++ (k ∷ [])) held)) fuel
+          ∙ (step d (accepted (Command k)) is).1 ∙ from_start (row d) (all d),
     )
 
-pub bounds-held-n : goal.bounds-held-n
-bounds-held-n c =
-    let d = (goal.at.bounds-held-n c).After-commands_on-s in
-    omega (arith, d.requires.3, (step (goal.at.bounds-held-n c).After-commands_on-s (Channel c.in-Channel.w) (sym c.piece_at-p.ensures ∙ c.in-Channel.is)).0, (stands d).most, (stands d).long)
+-- a channel more
+module _ (d : After-piece_at) (word : ℕ) (is : said d.piece_at.result ≡ accepted (Channel word)) where
+  due : Room (row d) (all d) (frame_of (got d)) (accepted (Channel word))
+  due = (step d (accepted (Channel word)) is).0
 
-pub overflow_add-active-in-Channel : goal.overflow_add-active-in-Channel
-overflow_add-active-in-Channel c = omega (arith, c.active_bit-active.ensures, (stands (goal.at.overflow_add-active-in-Channel c).After-commands_on-s).actives)
+  missing : (got d).channels < all d
+  missing = omega (arith, due.0, (fits d).0)
+
+  in_words : (got d).channels < 64
+  in_words = omega (arith, missing, d.args.source.now.most)
+
+  channel-fits : boundary ((got d).channels + 1) (got d).commands ≤ d.args.source.now.bits
+  channel-fits = omega (arith, due.1, many d, width d)
+
+pub bounds-so_far-so_far-in-Channel : goal.bounds-so_far-so_far-in-Channel
+bounds-so_far-so_far-in-Channel c =
+    in_words (goal.at.bounds-so_far-so_far-in-Channel c).After-piece_at c.in-Channel.w (ap said (c.in_ok-piece_at.was ∙ ap Ok c.in-Channel.is))
 
 pub loop-c-smaller : goal.loop-c-smaller
 loop-c-smaller c =
-    let d = (goal.at.loop-c-smaller c).After-commands_on-s in
-    omega (arith, (step (goal.at.loop-c-smaller c).After-commands_on-s (Channel c.in-Channel.w) (sym c.piece_at-p.ensures ∙ c.in-Channel.is)).0, width d, (stands d).further, (stands d).many)
+    let d = (goal.at.loop-c-smaller c).After-piece_at in
+    omega (arith, further d, channel-fits d c.in-Channel.w (ap said (c.in_ok-piece_at.was ∙ ap Ok c.in-Channel.is)))
 
 pub loop-c-preserved : goal.loop-c-preserved
 loop-c-preserved c =
-    let w = c.in-Channel.w in
-    let d = (goal.at.loop-c-preserved c).After-commands_on-s in
-    let g = stands d in
-    let q = step (goal.at.loop-c-preserved c).After-commands_on-s (Channel w) (sym c.piece_at-p.ensures ∙ c.in-Channel.is) in
-    let h : count d < length (kept d) = omega (arith, d.requires.3, q.0, g.most, g.long) in
-    rw (c.cleared.ensures, c.active_bit-active.ensures) (
-      omega (arith, q.0, g.most),
-      g.few,
-      omega (arith, q.0, width d, g.many),
-      omega (arith, g.actives),
-      length-set (kept d) (count d) (cleared w) ∙ g.long,
-      g.list,
-      ap (λ (k : ℕ). read_on (row d) (all d) k (sofar (count d + 1) (live d + w / 2 % 2) (came d) (take (count d + 1) (set (kept d) (count d) (cleared w))))) (omega arith)
-          ∙ ap (λ (t : List ℕ). read_on (row d) (all d) (all d + 256 - (count d + length (came d) + 1)) (sofar (count d + 1) (live d + w / 2 % 2) (came d) t))
-          (ap (λ (k : ℕ). take k (set (kept d) (count d) (cleared w))) (add-one (count d)) ∙ take-suc-set (kept d) (count d) (cleared w) h)
-          ∙ q.1,
+    let d = (goal.at.loop-c-preserved c).After-piece_at in
+    let word = c.in-Channel.w in
+    let is = ap said (c.in_ok-piece_at.was ∙ ap Ok c.in-Channel.is) in
+    let f = got d in
+    let n = f.channels in
+    let active : ℕ = f.active + word / 2 % 2 in
+    let h : n < length f.words = omega (arith, in_words d word is, (fits d).4) in
+    rw (c.cleared.ensures, c.active_bit.ensures) (
+      (
+        omega (arith, missing d word is),
+        omega (arith, (fits d).1),
+        (fits d).2,
+        channel-fits d word is,
+        length-set f.words n (cleared word) ∙ (fits d).4,
+        (fits d).5,
+      ),
+      ap (λ (k : ℕ). read_on (row d) (all d) k (sofar (n + 1) active (came d) (take (n + 1) (set f.words n (cleared word))))) (omega arith)
+          ∙ ap (λ (t : List ℕ). read_on (row d) (all d) (all d + 256 - (n + length (came d) + 1)) (sofar (n + 1) active (came d) t))
+          (ap (λ (k : ℕ). take k (set f.words n (cleared word))) (add-one n) ∙ take-suc-set f.words n (cleared word) h)
+          ∙ (step d (accepted (Channel word)) is).1 ∙ from_start (row d) (all d),
     )
-
-pub shape_of-codes-in-Refused : goal.shape_of-codes-in-Refused
-shape_of-codes-in-Refused c = let d = (goal.at.shape_of-codes-in-Refused c).After-commands_on-s in (stands d).list.0 ∙ sym d.requires.5.0
-
-pub returns-in-Refused : goal.returns-in-Refused
-returns-in-Refused c =
-    let d = (goal.at.returns-in-Refused c).After-commands_on-s in
-    let q = step (goal.at.returns-in-Refused c).After-commands_on-s (NoPiece c.in-Refused.number c.in-Refused.place) (sym c.piece_at-p.ensures ∙ c.in-Refused.is) in
-    record { result_value = ap (mapped counts_of) q.1; held = subst (λ (r : Answer Frame). Held (all d) r (kept d) (codes d)) q.1 tt }

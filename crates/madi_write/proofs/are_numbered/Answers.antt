@@ -1,48 +1,37 @@
 -- `madi_write::are_numbered` meets its contract: what was gathered is above 15 exactly if some command is. Assumes
 -- nothing.
-use mathlib.Core.Path.{◌≡◌, refl, sym, subst}
+use mathlib.Core.Path.{◌≡◌, sym, ap, ◌∙◌}
 use mathlib.Core.Logic.{⊎_elim}
-use mathlib.Core.Bool.{Bool, true, false}
+use mathlib.Core.Bool.{Bool, ◌&&◌}
+use mathlib.Core.List.{List, [], ◌∷◌, ◌++◌}
 use Prim.Native.Nat.{ℕ, ◌≤◌, ◌<◌}
 use native.Mathlib.Omega.{arith}
-use lib.Bits.{bit_or, or_lt, or_add_and, and_le_l, and_le_r}
-use lib.ListN.{get_or}
+use borrow.Author.Tests.{le-leb, lt-leb}
+use lib.Bits.{bit_or, or_lt}
+use lib.Dec.{leb}
+use Rattle.std.proofs.Common.{rules}
+use Rattle.std.proofs.lemmas.Iterator.{YieldsList-from_slice}
+use Rattle.std.proofs.lemmas.Fn.{fold_over, fronts}
 use Rattle.bits.proofs.Tests.{order}
 use Rattle.madi_code.specs.Frame.{numbered}
-use Rattle.madi_code.proofs.FrameLaws.{numbered-at, numbered-all}
+use Rattle.madi_code.proofs.FrameLaws.{numbered-push, none-numbered}
+use Rattle.madi_write.proofs.Checks.{left_in, right-in}
 use Rattle.madi_write.proofs.are_numbered.Goals as goal
 
-not_so : (t : Bool) → (t ≡ true → ⊥) → t ≡ false
-not_so true f = absurd (f refl)
-not_so false f = refl
+-- an or is above 15 where one side is
+or-leb : (a x : ℕ) → leb (bit_or a x) 15 ≡ (leb a 15 && leb x 15)
+or-leb a x =
+    ⊎_elim (λ (h : 16 ≤ a). rw (lt-leb a 15 (omega arith), lt-leb (bit_or a x) 15 (omega (arith, left_in a x))))
+    (λ (h : a < 16). ⊎_elim (λ (k : 16 ≤ x). rw (le-leb a 15 (omega arith), lt-leb x 15 (omega arith), lt-leb (bit_or a x) 15 (omega (arith, right-in a x))))
+    (λ (k : x < 16). rw (le-leb a 15 (omega arith), le-leb x 15 (omega arith), le-leb (bit_or a x) 15 (omega (arith, or_lt 4 a x h k)))) (order 16 x)) (order 16 a)
 
-left_in : (a b : ℕ) → a ≤ bit_or a b
-left_in a b = omega (arith, or_add_and a b, and_le_r a b)
-
-right-in : (a b : ℕ) → b ≤ bit_or a b
-right-in a b = omega (arith, or_add_and a b, and_le_l a b)
-
-pub loop-i-init : goal.loop-i-init
-loop-i-init c = (omega arith, λ k h. absurd (omega arith), λ q. omega arith)
-
-pub loop-i-preserved : goal.loop-i-preserved
-loop-i-preserved c =
-    let cs = c.args.commands.now in
-    let i = c.loop-i.i in
-    let any = c.loop-i.any in
-    let x = get_or cs i 0 in (
-      omega arith,
-      λ k h. ⊎_elim (λ (q : i ≤ k). let s : i ≡ k = omega arith in subst (λ (j : ℕ). get_or cs j 0 ≤ bit_or any x) s (right-in any x))
-          (λ (q : k < i). omega (arith, c.loop-i.invariant.1 k q, left_in any x)) (order i k),
-      λ q. or_lt 4 any x (c.loop-i.invariant.2 q) (numbered-at cs q i (omega arith)),
-    )
-
-pub returns-then-any-gt15 : goal.returns-then-any-gt15
-returns-then-any-gt15 c =
-    let cs = c.args.commands.now in
-    sym (not_so (numbered cs) (λ q. absurd (omega (arith, c.if-any-gt15.true, c.loop-i.invariant.2 q))))
+-- one more
+gathered : (ys : List ℕ) (a x : ℕ) → leb a 15 ≡ numbered ys → leb (bit_or a x) 15 ≡ numbered (ys ++ x ∷ [])
+gathered ys a x e = or-leb a x ∙ ap (λ (t : Bool). t && leb x 15) e ∙ sym (numbered-push ys x)
 
 pub returns : goal.returns
 returns c =
-    let cs = c.args.commands.now in
-    sym (numbered-all cs (λ k h. omega (arith, c.loop-i.invariant.1 k (omega arith), c.if-any-gt15.false)))
+    fold_over fronts (λ y. y.now) _ (λ ys a. leb a 15 ≡ numbered ys) _
+    (λ ys a x b q e k. let p : (b ≡ bit_or a x.now) × (q ≡ _) = search rules in
+    (rw p.0 (gathered ys a x.now e), p.1))
+    _ c.args.commands.now 0 c.fold.result (YieldsList-from_slice c.args.commands.now cc).runs none-numbered c.fold.ensures.ran

@@ -1,23 +1,25 @@
 -- `madi_write::are_sound` meets its contract: a word that is passed breaks no rule. Assumes nothing.
-use mathlib.Core.Bool.{false≢true}
+use mathlib.Core.Path.{◌≡◌}
+use mathlib.Core.Bool.{true}
+use Prim.Native.Nat.{ℕ, ◌%◌}
 use native.Mathlib.Omega.{arith}
-use lib.ListN.{get_or}
-use Rattle.subframe.proofs.BodyLaws.{parity-lt}
-use Rattle.madi_write.proofs.Checks.{sound_more}
+use borrow.Author.Tests.{eq-eqb}
+use lib.Bits.{bit_or}
+use lib.ListN.{length}
+use Rattle.std.proofs.Common.{rules, tests}
+use Rattle.std.specs.List.{AllWithin}
+use Rattle.std.proofs.lemmas.Iterator.{YieldsList-from_slice, cases_from_all}
+use Rattle.subframe.specs.Body.{parity_of, even_body}
+use Rattle.madi_write.proofs.Checks.{left_in, right-in}
 use Rattle.madi_write.proofs.are_sound.Goals as goal
 
-pub loop-i-init : goal.loop-i-init
-loop-i-init c = (omega arith, λ k h. absurd (omega arith))
-
-pub overflow_add-parity : goal.overflow_add-parity
-overflow_add-parity c = omega (arith, c.parity.ensures, parity-lt (get_or c.args.words.now c.loop-i.i 0))
-
-pub returns-then-parity-w-ne0 : goal.returns-then-parity-w-ne0
-returns-then-parity-w-ne0 c = λ e. absurd (false≢true e)
-
-pub loop-i-preserved : goal.loop-i-preserved
-loop-i-preserved c =
-    (omega arith, sound_more c.args.words.now c.loop-i.i c.parity.result c.parity.ensures c.loop-i.invariant.1 (omega arith))
+-- a word whose parity and bits 0 and 1 together are 0
+neither : (w : ℕ) → bit_or (parity_of w) (w % 4) ≡ 0 → (even_body w ≡ true) × (w % 4 ≡ 0)
+neither w e = (eq-eqb (parity_of w) 0 (omega (arith, left_in (parity_of w) (w % 4))), omega (arith, right-in (parity_of w) (w % 4)))
 
 pub returns : goal.returns
-returns c = λ e k h. c.loop-i.invariant.1 k (omega arith)
+returns c = λ e i h.
+    let all = cases_from_all _ _ c.all.result (λ w. bit_or (parity_of w) (w % 4) ≡ 0) (λ w. Unit {0}) c.all.ensures.ran
+    (YieldsList-from_slice c.args.words.now cc) (λ x q k. search (rules, tests)) (λ x q k. tt) in
+    let each : AllWithin (λ w. bit_or (parity_of w) (w % 4) ≡ 0) c.args.words.now 0 (length c.args.words.now) = rw e at all in
+    neither _ (each i 0 (omega arith) h)

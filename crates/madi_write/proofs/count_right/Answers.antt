@@ -1,9 +1,7 @@
 -- `madi_write::count_right` meets its contract: the tests are the definition's. Assumes nothing.
-use borrow.Author.Tests.{le-leb, lt-leb}
+use Rattle.madi_write.proofs.Checks.{le-leb-is}
 use Rattle.madi_write.proofs.count_right.Goals as goal
 
-pub returns-then-n-lt1 : goal.returns-then-n-lt1
-returns-then-n-lt1 c = rw (lt-leb 1 _ c.if-n-lt1.true)
-
 pub returns : goal.returns
-returns c = rw (le-leb 1 _ c.if-n-lt1.false)
+returns c =
+    rw (c.contains.ensures.value, c.new.ensures.start, c.new.ensures.end, c.new.ensures.exhausted, le-leb-is 1 c.args.n, le-leb-is c.args.n 255)

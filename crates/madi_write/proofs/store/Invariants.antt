@@ -13,7 +13,4 @@ Grown j y n i at_entry line =
     → at_entry ≡ over j new old → line ≡ over (j + i) new old
 
 abbrev pub invariant-loop-i : goal.invariant-loop-i
-invariant-loop-i l = (l.i ≤ l.n) × (length l.line ≡ length l.initial.line) × Grown l.j l.y l.n l.i l.initial.line l.line
-
-abbrev pub decreases-loop-i : goal.decreases-loop-i
-decreases-loop-i l = l.n - l.i
+invariant-loop-i l = Grown l.j l.y l.n l.i l.initial.line l.line

@@ -19,20 +19,20 @@ longer a b h = omega (arith, length-append a b)
 pub slice_bounds-body-end : goal.slice_bounds-body-end
 slice_bounds-body-end c = omega (arith, fits _ c.body_size-size.ensures)
 
-pub slice_bounds-read-end-in-loop-left : goal.slice_bounds-read-end-in-loop-left
-slice_bounds-read-end-in-loop-left c = sym (length-take-le _ _ (omega (arith, fits _ c.body_size-size.ensures)))
+pub slice_bounds-read-end-in-loop-record : goal.slice_bounds-read-end-in-loop-record
+slice_bounds-read-end-in-loop-record c = sym (length-take-le _ _ (omega (arith, fits _ c.body_size-size.ensures)))
 
-pub slice_bounds-body-end-in-loop-left : goal.slice_bounds-body-end-in-loop-left
-slice_bounds-body-end-in-loop-left c =
-    longer c.read-had.new.buf (drop c.body_size-size.result c.loop-left.body) c.read-had.ensures.0
+pub slice_bounds-body-end-in-loop-record : goal.slice_bounds-body-end-in-loop-record
+slice_bounds-body-end-in-loop-record c =
+    longer c.read-had.new.buf (drop c.body_size-size.result c.loop-record.body) c.read-had.ensures.0
 
-pub slice_bounds-step-end-in-loop-left : goal.slice_bounds-step-end-in-loop-left
-slice_bounds-step-end-in-loop-left c =
+pub slice_bounds-step-end-in-loop-record : goal.slice_bounds-step-end-in-loop-record
+slice_bounds-step-end-in-loop-record c =
     sym (length-take-le _ _
-    (longer c.read-had.new.buf (drop c.body_size-size.result c.loop-left.body) c.read-had.ensures.0))
+    (longer c.read-had.new.buf (drop c.body_size-size.result c.loop-record.body) c.read-had.ensures.0))
 
-pub loop-left-preserved : goal.loop-left-preserved
-loop-left-preserved c =
-    let l = c.loop-left in
+pub loop-record-preserved : goal.loop-record-preserved
+loop-record-preserved c =
+    let l = c.loop-record in
     let m : c.body_size-size.result ≤ length l.body = omega (arith, fits _ c.body_size-size.ensures) in
     (search rules, length_front l.body c.read-had.new.buf c.body_size-size.result (search rules) ∙ l.invariant.1)

@@ -3,8 +3,5 @@ use mathlib.Core.Path.{◌≡◌}
 use lib.ListN.{length}
 use Rattle.packet_replay.proofs.run.Given as goal
 
-abbrev pub invariant-loop-left : goal.invariant-loop-left
-invariant-loop-left l = (length l.head ≡ 4) × (length l.body ≡ 8192)
-
-abbrev pub decreases-loop-left : goal.decreases-loop-left
-decreases-loop-left l = l.left
+abbrev pub invariant-loop-record : goal.invariant-loop-record
+invariant-loop-record l = (length l.head ≡ 4) × (length l.body ≡ 8192)

@@ -43,7 +43,7 @@ loop-i-preserved c = (
   c.loop-i.invariant.0,
   search rules,
   search rules,
-  word_more c.args.octets.now c.args.words.now c.loop-i.i c.loop-i.invariant.0 (omega arith) c.loop-i.invariant.3 c.big_endian.ensures,
+  word_more c.args.octets.now c.args.words.now c.loop-i.i c.loop-i.invariant.0 (omega arith) c.loop-i.invariant.3 (omega (arith, c.from_be_bytes.ensures)),
 )
 
 pub returns : goal.returns

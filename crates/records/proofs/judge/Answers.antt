@@ -1,52 +1,43 @@
 -- `records::judge` meets its contract. Assumes nothing.
 use mathlib.Core.Path.{◌≡◌, sym, ap, ◌∙◌}
-use mathlib.Core.List.{List}
-use Prim.Native.Nat.{ℕ, ◌≤◌}
+use Prim.Native.Nat.{◌≤◌}
 use native.Mathlib.Omega.{arith}
 use lib.ListN.{length, drop}
+use Rattle.std.proofs.lemmas.Result.{err_from_is_err_and}
 use Rattle.answer.specs.Answer.{Answer.accepted}
-use Rattle.answer.specs.Said.{number_said}
-use Rattle.answer.specs.declared.NumberAnswer.{NumberAnswer}
-use Rattle.answer.specs.declared.NumberAnswer.TheVariants.{Number}
-use Rattle.records.specs.Record.{outcome_said, kind_of, by_kind}
+use Rattle.answer.specs.Said.{said}
+use Rattle.records.specs.Record.{kind_of, by_kind}
 use Rattle.records.proofs.RecordLaws.{to_the_end, kind-refused, kind-within, kind-known}
 use Rattle.records.proofs.judge.Goals as goal
-use Rattle.records.proofs.judge.Goals.{After-by_kind}
+use Rattle.records.proofs.judge.Goals.{In_ok-kind, After-by_kind}
 
--- a number that the code has is the kind
-known : (body : List ℕ) {a : NumberAnswer} {k : ℕ} → number_said a ≡ kind_of body → a ≡ Number k → kind_of body ≡ accepted k
-known body s e = sym s ∙ ap number_said e
+-- the kind that the code has
+module _ (c : In_ok-kind) where
+  known : kind_of c.args.body.now ≡ accepted c.in_ok-kind.kind
+  known = sym c.kind_of.ensures ∙ ap said c.in_ok-kind.was
 
-within : (body : List ℕ) {a : NumberAnswer} {k : ℕ} → number_said a ≡ kind_of body → a ≡ Number k → 2 ≤ length body
-within body {k = k} s e = kind-within body k (known body s e)
+  within : 2 ≤ length c.args.body.now
+  within = kind-within c.args.body.now c.in_ok-kind.kind known
 
 pub slice_bounds-by_kind-count : goal.slice_bounds-by_kind-count
-slice_bounds-by_kind-count c =
-    omega (arith, within c.args.body.now c.kind_of.ensures c.in-Number.is)
+slice_bounds-by_kind-count c = omega (arith, within (goal.at.slice_bounds-by_kind-count c).In_ok-kind)
 
 pub slice_bounds-by_kind-start : goal.slice_bounds-by_kind-start
-slice_bounds-by_kind-start c =
-    omega (arith, within c.args.body.now c.kind_of.ensures c.in-Number.is)
+slice_bounds-by_kind-start c = omega (arith, within (goal.at.slice_bounds-by_kind-start c).In_ok-kind)
 
 pub slice_bounds-by_kind-end : goal.slice_bounds-by_kind-end
-slice_bounds-by_kind-end c =
-    omega (arith, within c.args.body.now c.kind_of.ensures c.in-Number.is)
+slice_bounds-by_kind-end c = omega (arith, within (goal.at.slice_bounds-by_kind-end c).In_ok-kind)
 
 -- what was called with the payload and its kind; no law of the record is asked here, so that its own fault shows
-module _ (c : After-by_kind) where
-  abbrev body : List ℕ
-  body = c.args.body.now
+of-payload : (c : After-by_kind) → said c.by_kind.result ≡ by_kind c.in_ok-kind.kind (drop 2 c.args.body.now)
+of-payload c = c.by_kind.ensures ∙ ap (by_kind c.in_ok-kind.kind) (to_the_end 2 c.args.body.now)
 
-  abbrev kind : ℕ
-  kind = c.in-Number.kind
+pub returns : goal.returns
+returns c =
+    of-payload (goal.at.returns c).After-by_kind
+    ∙ sym (kind-known c.args.body.now c.in_ok-kind.kind (known (goal.at.returns c).In_ok-kind))
 
-  of-payload : outcome_said c.by_kind.result ≡ by_kind kind (drop 2 body)
-  of-payload = c.by_kind.ensures ∙ ap (by_kind kind) (to_the_end 2 body)
-
-pub returns-in-Number : goal.returns-in-Number
-returns-in-Number c =
-    of-payload c ∙ sym (kind-known (body c) (kind c) (known (body c) c.kind_of.ensures c.in-Number.is))
-
-pub returns-in-Refused : goal.returns-in-Refused
-returns-in-Refused c =
-    sym (kind-refused c.args.body.now _ _ (sym c.kind_of.ensures ∙ ap number_said c.in-Refused.is))
+pub returns-in_err-kind : goal.returns-in_err-kind
+returns-in_err-kind c =
+    let p = err_from_is_err_and c.from_residual.result c.from_residual.ensures.1 in
+    rw (p.1, p.2) (sym (kind-refused c.args.body.now _ _ (sym c.kind_of.ensures ∙ ap said c.in_err-kind.was)))

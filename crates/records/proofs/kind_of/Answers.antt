@@ -1,6 +1,5 @@
 -- `records::kind_of` meets its contract. Assumes nothing.
 use mathlib.Core.Path.{sym}
-use native.Mathlib.Omega.{arith}
 use borrow.Author.Tests.{lt-leb, le-leb, eq-eqb, ne_eqb}
 use Rattle.answer.specs.Demand.{◌&◌}
 use Rattle.answer.specs.Demand.Stops.{fails, later}
@@ -16,10 +15,7 @@ pub returns-then-body-ne1 : goal.returns-then-body-ne1
 unfolding kind_of
 returns-then-body-ne1 c = sym (stopped _ (later (le-leb _ _ c.if-body-lt2.false) (fails (ne_eqb _ _ c.if-body-ne1.true))))
 
-pub overflow_cast-result : goal.overflow_cast-result
-overflow_cast-result c = omega (arith, c.shared_slice_known-2-1.given 1)
-
 pub returns : goal.returns
 unfolding kind_of
 returns c =
-    sym (passing _ (kind_demands c.args.body.now) (le-leb _ _ c.if-body-lt2.false & eq-eqb _ _ c.if-body-ne1.false & tt))
+    rw c.from.ensures (sym (passing _ (kind_demands c.args.body.now) (le-leb _ _ c.if-body-lt2.false & eq-eqb _ _ c.if-body-ne1.false & tt)))

@@ -4,11 +4,10 @@ use Rattle.replay.specs.declared.Next.TheVariants.{End, Long, Cut}
 use Rattle.replay.proofs.Entries.{entry-proper}
 use Rattle.replay.proofs.Changes.{proper-as}
 use Rattle.replay.proofs.Steps.{stands, counts, fills}
-use borrow.Author.Rules.{rules}
 use Rattle.replay.proofs.step.Goals as goal
 
 pub enter-requires : goal.enter-requires
-enter-requires c = (search rules, proper-as (sym c.entry_of.ensures) (entry-proper _))
+enter-requires c = proper-as (sym c.entry_of.ensures) (entry-proper _)
 
 pub returns-then-enter : goal.returns-then-enter
 returns-then-enter c =

@@ -6,4 +6,4 @@ use Rattle.report.proofs.put_line.Goals as goal
 pub returns : goal.returns
 unfolding line_of
 returns c =
-    put_then c.put_outcome-t.ensures.put c.put_number.ensures.put
+    put_then c.put_answer-t.ensures.put c.put_number.ensures.put

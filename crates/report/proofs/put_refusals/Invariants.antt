@@ -7,6 +7,3 @@ use Rattle.report.proofs.put_refusals.Given as goal
 
 abbrev pub invariant-loop-n : goal.invariant-loop-n
 invariant-loop-n l = (l.n ≤ 18) × (length l.out ≡ length l.initial.out) × (l.at ≤ l.end) × (l.end ≤ l.at + 77 * (18 - l.n)) × PutFrom l.figures l.group l.initial.out l.end l.n l.at l.out
-
-abbrev pub decreases-loop-n : goal.decreases-loop-n
-decreases-loop-n l = l.n

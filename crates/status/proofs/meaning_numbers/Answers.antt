@@ -1,22 +1,16 @@
--- `status::meaning_numbers` meets its contract, by the cases of the meaning.
--- Assumes nothing.
-use mathlib.Core.Path.{sym, ap, ◌∙◌}
-use Rattle.status.specs.Numbers.{numbers_of}
-use Rattle.status.specs.declared.Use.TheVariants.{Professional}
+-- `status::meaning_numbers` meets its contract, by the cases of the meaning. Assumes nothing.
+use Rattle.std.proofs.Common.{rules}
+use Rattle.status.specs.Numbers.{numbers_of, consumer_numbers}
 use Rattle.status.proofs.meaning_numbers.Goals as goal
 
 pub returns-in-Consumer : goal.returns-in-Consumer
-unfolding numbers_of
-returns-in-Consumer c = c.consumer.ensures ∙ ap numbers_of (sym c.in-Consumer.is ∙ c.meaning.ensures)
+unfolding numbers_of consumer_numbers
+returns-in-Consumer c = search rules
 
-pub returns-in-LinearPcm : goal.returns-in-LinearPcm
-unfolding numbers_of
-returns-in-LinearPcm c =
-    c.numbers_by.ensures
-    ∙ ap numbers_of (sym (c.in-Professional.is ∙ ap Professional c.in-LinearPcm.is) ∙ c.meaning.ensures)
+pub returns-in-Professional-LinearPcm : goal.returns-in-Professional-LinearPcm
+unfolding numbers_of consumer_numbers
+returns-in-Professional-LinearPcm c = search rules
 
-pub returns-in-OtherPurpose : goal.returns-in-OtherPurpose
-unfolding numbers_of
-returns-in-OtherPurpose c =
-    c.numbers_by-in-OtherPurpose.ensures
-    ∙ ap numbers_of (sym (c.in-Professional.is ∙ ap Professional c.in-OtherPurpose.is) ∙ c.meaning.ensures)
+pub returns-in-Professional-OtherPurpose : goal.returns-in-Professional-OtherPurpose
+unfolding numbers_of consumer_numbers
+returns-in-Professional-OtherPurpose c = search rules

@@ -31,6 +31,6 @@ returns c =
     let even : eqb (parity_of b) 0 ≡ true = rw (← c.parity.ensures) (eq-eqb _ 0 c.if-parity-ne0.false) in
     rw (
       passing (accepted (fields_of b)) (read_demands b) (eq-eqb _ 0 c.if-body-ne0.false & even & tt),
-      to_z-of_z {w = w32} (sfits_of c.sample_of-sample.type_inv),
-      c.sample_of-sample.ensures,
+      to_z-of_z {w = w32} (sfits_of c.sample_of.type_inv),
+      c.sample_of.ensures,
     )

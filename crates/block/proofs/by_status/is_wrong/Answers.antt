@@ -1,5 +1,5 @@
 -- `block::by_status::is_wrong` meets its contract: where length and channel are right, the CRCC alone decides. Assumes nothing.
-use mathlib.Core.Path.{◌≡◌, sym, ap, ◌∙◌}
+use mathlib.Core.Path.{◌≡◌, ap, ◌∙◌}
 use mathlib.Core.Bool.{not}
 use mathlib.Core.List.{List}
 use Prim.Native.Nat.{ℕ, ◌<◌}
@@ -13,10 +13,8 @@ tells : (t : List ℕ) (channel : ℕ) → length t ≡ side_length → channel 
 unfolding status_right wrong
 tells t channel n h = rw (eq-eqb (length t) side_length n, lt-ltb channel 2 h)
 
-pub returns-then-status_right : goal.returns-then-status_right
-returns-then-status_right c =
-    ap not (sym c.if-status_right.true ∙ c.status_right.ensures) ∙ tells c.args.side.now c.args.channel c.requires.0 c.requires.1
-
 pub returns : goal.returns
 returns c =
-    ap not (sym c.if-status_right.false ∙ c.status_right.ensures) ∙ tells c.args.side.now c.args.channel c.requires.0 c.requires.1
+    let side = c.args.side.now in
+    ap not c.status_right.ensures ∙ tells side c.number.result c.told-side c.number.ensures.1
+    ∙ ap (wrong side) c.number.ensures.0

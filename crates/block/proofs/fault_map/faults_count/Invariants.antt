@@ -7,7 +7,4 @@ use Rattle.block.specs.Inner.{some_fault}
 use Rattle.block.proofs.fault_map.faults_count.Given as goal
 
 abbrev pub invariant-loop-j : goal.invariant-loop-j
-invariant-loop-j l = (l.j ≤ 24) × (l.n ≤ l.j) × (l.n + count (listed l.j (24 - l.j) (some_fault l.side)) ≡ count (listed 0 24 (some_fault l.side)))
-
-abbrev pub decreases-loop-j : goal.decreases-loop-j
-decreases-loop-j l = 24 - l.j
+invariant-loop-j l = (l.n ≤ l.j) × (l.n + count (listed l.j (24 - l.j) (some_fault l.side)) ≡ count (listed 0 24 (some_fault l.side)))

@@ -10,17 +10,17 @@ returns-then-byte2-eq0 c =
     let a = c.args in
     sym (mask-undeclared a.byte0 a.byte1 a.byte2 c.if-byte2-eq0.true)
 
+pub returns-in-Professional-LinearPcm : goal.returns-in-Professional-LinearPcm
+unfolding mask_under
+returns-in-Professional-LinearPcm c =
+    c.mask_with.ensures
+    ∙ ap mask_under (sym (c.in-Professional-LinearPcm.is ∙ ap Professional c.in-Professional-LinearPcm.field-0-is) ∙ c.meaning.ensures)
+
+pub returns-in-Professional-OtherPurpose : goal.returns-in-Professional-OtherPurpose
+unfolding mask_under
+returns-in-Professional-OtherPurpose c =
+    ap mask_under (sym (c.in-Professional-OtherPurpose.is ∙ ap Professional c.in-Professional-OtherPurpose.field-0-is) ∙ c.meaning.ensures)
+
 pub returns-in-Consumer : goal.returns-in-Consumer
 unfolding mask_under
 returns-in-Consumer c = ap mask_under (sym c.in-Consumer.is ∙ c.meaning.ensures)
-
-pub returns-in-LinearPcm : goal.returns-in-LinearPcm
-unfolding mask_under
-returns-in-LinearPcm c =
-    c.mask_with.ensures
-    ∙ ap mask_under (sym (c.in-Professional.is ∙ ap Professional c.in-LinearPcm.is) ∙ c.meaning.ensures)
-
-pub returns-in-OtherPurpose : goal.returns-in-OtherPurpose
-unfolding mask_under
-returns-in-OtherPurpose c =
-    ap mask_under (sym (c.in-Professional.is ∙ ap Professional c.in-OtherPurpose.is) ∙ c.meaning.ensures)

@@ -1,9 +1,10 @@
 -- `block::length::mask_with` meets its contract, by the use of the auxiliary bits. Assumes nothing.
 use mathlib.Core.Path.{◌≡◌, sym, ap, ◌∙◌}
+use mathlib.Core.Logic.{⊎_elim}
 use Rattle.status.specs.declared.Auxiliary.{Auxiliary}
 use Rattle.block.specs.Inner.{mask_with}
-use Rattle.block.proofs.length.mask_with.Goals as goal
 use Rattle.block.proofs.length.mask_with.Goals.{Start}
+use Rattle.block.proofs.length.mask_with.Goals as goal
 
 -- by what the bits are used for
 module _ (s : Start) where
@@ -16,16 +17,12 @@ returns-in-MainAudio c = c.mask_below.ensures ∙ used (goal.at.returns-in-MainA
 
 pub returns-in-NotDefined : goal.returns-in-NotDefined
 unfolding mask_with
-returns-in-NotDefined c = c.mask_below-in-NotDefined.ensures ∙ used (goal.at.returns-in-NotDefined c).Start c.in-NotDefined.is
-
-pub returns-in-Coordination : goal.returns-in-Coordination
-unfolding mask_with
-returns-in-Coordination c = c.mask_below-in-Coordination.ensures ∙ used (goal.at.returns-in-Coordination c).Start c.in-Coordination.is
+returns-in-NotDefined c =
+    let s = (goal.at.returns-in-NotDefined c).Start in
+    ⊎_elim (λ e. c.mask_below-in-NotDefined.ensures ∙ used s e) (λ e. c.mask_below-in-NotDefined.ensures ∙ used s e) c.in-NotDefined.is
 
 pub returns-in-UserDefined : goal.returns-in-UserDefined
 unfolding mask_with
-returns-in-UserDefined c = used (goal.at.returns-in-UserDefined c).Start c.in-UserDefined.is
-
-pub returns-in-Reserved : goal.returns-in-Reserved
-unfolding mask_with
-returns-in-Reserved c = used (goal.at.returns-in-Reserved c).Start c.in-Reserved.is
+returns-in-UserDefined c =
+    let s = (goal.at.returns-in-UserDefined c).Start in
+    ⊎_elim (λ e. used s e) (λ e. used s e.1) c.in-UserDefined.is

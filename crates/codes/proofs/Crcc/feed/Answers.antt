@@ -5,11 +5,7 @@ use Rattle.codes.proofs.Stages.{fed-same, fed-other}
 use Rattle.codes.proofs.Crcc.feed.Goals as goal
 
 pub returns-then-top-bit : goal.returns-then-top-bit
-returns-then-top-bit c =
-    let a = c.args in
-    fed-same a.self.stages a.bit (omega (arith, c.struct_known-2-1.given)) c.if-top-bit.true
+returns-then-top-bit c = fed-other c.args.self.stages c.args.bit (omega (arith, c.struct_known-2-1.given)) c.if-top-bit.true
 
 pub returns-else-top-bit : goal.returns-else-top-bit
-returns-else-top-bit c =
-    let a = c.args in
-    fed-other a.self.stages a.bit (omega (arith, c.struct_known-2-1.given)) c.if-top-bit.false
+returns-else-top-bit c = fed-same c.args.self.stages c.args.bit (omega (arith, c.struct_known-2-1.given)) c.if-top-bit.false

@@ -1,79 +1,87 @@
 -- `madi_read::at_boundary::piece_at` meets its contract: each way out is a row of the definition. Assumes nothing.
 use mathlib.Core.Path.{◌≡◌, sym, ap, ◌∙◌}
-use native.Mathlib.Omega.{arith}
+use mathlib.Core.List.{List}
+use Prim.Native.Nat.{ℕ}
 use lib.ListN.{length, take}
-use lib.Seq.{length-take-le}
-use Rattle.bits.specs.Row.{Row}
-use Rattle.bits.specs.Window.{part, window}
+use Rattle.bits.specs.Row.{Row, big_bits}
 use Rattle.madi_code.specs.Groups.{command_of}
-use Rattle.madi_code.specs.Channels.{channel_of}
+use Rattle.madi_code.specs.Channels.{ChannelBits, channel_of}
 use Rattle.madi_code.specs.Frame.{boundary}
-use Rattle.madi_code.specs.declared.ChannelBits.TheVariants.{Word}
-use Rattle.madi_code.proofs.TableLaws.{word-received}
-use Rattle.madi_read.specs.Reader.{carried}
+use Rattle.madi_code.proofs.ChannelLaws.{broken-lt}
+use Rattle.madi_read.specs.Inner.{row_of, due_piece}
 use Rattle.madi_read.proofs.Carrying.{length-carried, first-ten, forty}
+use Rattle.madi_read.proofs.Copying.{length-listed}
 use Rattle.madi_read.proofs.Onward.{at-end, at-short, at-word, at-command, at-no-word}
 use Rattle.madi_read.proofs.at_boundary.piece_at.Goals as goal
-use Rattle.madi_read.proofs.at_boundary.piece_at.Goals.{After-command_of-c, Start, Then-w-lt4294967296}
+use Rattle.madi_read.proofs.at_boundary.piece_at.Goals.{Start}
 
-abbrev row : Start → Row
-row s = carried s.args.level s.args.bits s.args.line.now
+module _ (s : Start) where
+  abbrev row : Row
+  row = row_of s.args.source.now
 
--- so many commands came
-came : (s : Start) → length (take s.args.s s.args.codes.now) ≡ s.args.s
-came s = length-take-le s.args.s s.args.codes.now s.requires.4
+  abbrev channels : ℕ
+  channels = s.args.source.now.channels
 
-width : (s : Start) → length (row s) ≡ s.args.bits
-width s = length-carried s.args.level s.args.bits s.args.line.now
+  abbrev bits : ℕ
+  bits = s.args.source.now.bits
 
--- the channel that the code found
-word : (c : Then-w-lt4294967296) → let a = c.args in
-    channel_of (part (carried a.level a.bits a.line.now) (boundary a.n a.s) 40) ≡ Word c.word_by-w.result
-word c =
-    let a = c.args in
-    let v = c.bits_at-v.result in
-    ap channel_of (sym (forty a.level a.bits a.line.now (omega arith) (boundary a.n a.s) v c.if-bits-at.false c.bits_at-v.ensures))
-    ∙ word-received a.table.now v c.requires.0 (rw c.word_by-w.ensures at c.if-w-lt4294967296.true)
-    ∙ ap Word (sym c.word_by-w.ensures)
+  abbrev n : ℕ
+  n = s.args.so_far.now.channels
 
--- the command that it found
-command : (c : After-command_of-c) → let a = c.args in
-    c.command_of-c.result ≡ command_of (window (carried a.level a.bits a.line.now) (boundary a.n a.s) 10)
-command c =
-    let a = c.args in
-    c.command_of-c.ensures
-    ∙ ap command_of (first-ten a.level a.bits a.line.now (omega arith) (boundary a.n a.s) c.bits_at-v.result c.if-bits-at.false c.bits_at-v.ensures)
+  abbrev active : ℕ
+  active = s.args.so_far.now.active
 
-pub returns-then-at-bits : goal.returns-then-at-bits
-returns-then-at-bits c =
-    let s = (goal.at.returns-then-at-bits c).Start in
-    let a = s.args in
-    c.end_of.ensures ∙ at-end (row s) a.channels a.n a.active a.s a.bits (take a.s a.codes.now) (came s) (width s) c.if-at-bits.true
+  abbrev count : ℕ
+  count = s.args.so_far.now.commands
 
-pub returns-then-bits-at : goal.returns-then-bits-at
-returns-then-bits-at c =
-    let s = (goal.at.returns-then-bits-at c).Start in
-    let a = s.args in
-    c.short_piece.ensures ∙ at-short (row s) a.channels a.n a.active a.s a.bits (take a.s a.codes.now) (came s) (width s) c.if-at-bits.false c.if-bits-at.true
+  abbrev at : ℕ
+  at = boundary n count
 
-pub returns-then-w-lt4294967296 : goal.returns-then-w-lt4294967296
-returns-then-w-lt4294967296 c =
-    let s = (goal.at.returns-then-w-lt4294967296 c).Start in
-    let a = s.args in
-    c.word_piece.ensures ∙ at-word (row s) a.channels a.n a.active a.s a.bits (take a.s a.codes.now) (came s) (width s) c.if-bits-at.false c.word_by-w.result (word (goal.at.returns-then-w-lt4294967296 c).Then-w-lt4294967296)
+  abbrev commands : List ℕ
+  commands = take count s.args.so_far.now.codes
 
-pub returns-then-c-lt16 : goal.returns-then-c-lt16
-returns-then-c-lt16 c =
-    let k = (goal.at.returns-then-c-lt16 c).After-command_of-c in
-    let s = (goal.at.returns-then-c-lt16 c).Start in
-    let a = s.args in
-    c.command_piece.ensures ∙ at-command (row s) a.channels a.n a.active a.s a.bits (take a.s a.codes.now) (came s) (width s) c.if-bits-at.false k.command_of-c.result (command k) c.if-c-lt16.true
+  abbrev words : List ℕ
+  words = take n s.args.so_far.now.words
+
+  -- so many commands came
+  came : length commands ≡ count
+  came = length-listed count s.args.so_far.now.codes s.requires.5 s.requires.2
+
+  width : length row ≡ bits
+  width = length-carried s.args.source.now.level bits s.args.source.now.line.now
+
+pub returns-then-at-source : goal.returns-then-at-source
+returns-then-at-source c =
+    let s = (goal.at.returns-then-at-source c).Start in
+    c.end_of.ensures ∙ at-end (row s) (channels s) (n s) (active s) (count s) (bits s) (commands s) (words s) (came s) (width s) c.if-at-source.true
+
+pub returns-then-source-at : goal.returns-then-source-at
+returns-then-source-at c =
+    let s = (goal.at.returns-then-source-at c).Start in
+    c.short_piece.ensures
+    ∙ at-short (row s) (channels s) (n s) (active s) (count s) (bits s) (commands s) (words s) (came s) (width s) c.if-at-source.false c.if-source-at.true
+
+pub returns-in-Some : goal.returns-in-Some
+returns-in-Some c =
+    let s = (goal.at.returns-in-Some c).Start in
+    c.due_piece.ensures
+    ∙ at-word (row s) (channels s) (n s) (active s) (count s) (bits s) (commands s) (words s) (came s) (width s) c.if-source-at.false c.in-Some.w
+    (ap channel_of (sym (forty (row s) (at s) _ c.bits_at-v.ensures)) ∙ c.in-Some.ensures)
+
+pub returns-in-Some-command : goal.returns-in-Some-command
+returns-in-Some-command c =
+    let s = (goal.at.returns-in-Some-command c).Start in
+    let found = c.in-Some-command.ensures in
+    c.command_piece.ensures
+    ∙ at-command (row s) (channels s) (n s) (active s) (count s) (bits s) (commands s) (words s) (came s) (width s) c.if-source-at.false c.in-Some-command.c
+    (found.0 ∙ ap command_of (first-ten (row s) (at s) _ c.bits_at-v.ensures)) found.1
+
+pub due_piece-requires-2-clause-group : goal.due_piece-requires-2-clause-group
+due_piece-requires-2-clause-group c = λ b e. broken-lt (big_bits 40 c.bits_at-v.result) b.group (sym c.channel_of.ensures ∙ e)
 
 pub returns : goal.returns
 returns c =
-    let k = (goal.at.returns c).After-command_of-c in
     let s = (goal.at.returns c).Start in
-    let a = s.args in
-    c.no_word.ensures
-    ∙ at-no-word (row s) a.channels a.n a.active a.s a.bits (take a.s a.codes.now) (came s) (width s) c.if-bits-at.false k.command_of-c.result (command k) c.if-c-lt16.false _
-    (forty a.level a.bits a.line.now (omega arith) (boundary a.n a.s) c.bits_at-v.result c.if-bits-at.false c.bits_at-v.ensures)
+    c.due_piece-2.ensures ∙ ap (λ (b : ChannelBits). due_piece (channels s) (n s) (active s) b (at s)) c.channel_of.ensures
+    ∙ at-no-word (row s) (channels s) (n s) (active s) (count s) (bits s) (commands s) (words s) (came s) (width s) c.if-source-at.false _
+    (ap command_of (first-ten (row s) (at s) _ c.bits_at-v.ensures)) c.in_default-command.ensures _ (forty (row s) (at s) _ c.bits_at-v.ensures)

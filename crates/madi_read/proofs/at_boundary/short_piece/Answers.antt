@@ -1,44 +1,22 @@
 -- `madi_read::at_boundary::short_piece` meets its contract: the ten bits are the window. Assumes nothing.
-use mathlib.Core.Path.{◌≡◌, ap, ◌∙◌}
-use native.Mathlib.Omega.{arith}
-use borrow.Author.Tests.{le-leb, lt-leb, lt-ltb, le-ltb}
-use Rattle.bits.specs.Window.{window}
+use mathlib.Core.Path.{ap, ◌∙◌}
+use borrow.Author.Tests.{le-leb, lt-leb, lt-ltb}
 use Rattle.madi_code.specs.Groups.{command_of}
-use Rattle.madi_read.specs.Reader.{carried}
-use Rattle.madi_read.proofs.Carrying.{length-carried, window-carried}
+use Rattle.madi_read.proofs.Carrying.{length-carried}
 use Rattle.madi_read.proofs.at_boundary.short_piece.Goals as goal
-use Rattle.madi_read.proofs.at_boundary.short_piece.Goals.{After-command_of-c}
 
--- the command that the code found
-found : (c : After-command_of-c) → let a = c.args in
-    c.command_of-c.result ≡ command_of (window (carried a.level a.bits a.line.now) a.at 10)
-found c =
-    let a = c.args in
-    c.command_of-c.ensures
-    ∙ ap command_of (c.bits_at.ensures ∙ window-carried a.level a.bits a.line.now (omega arith) a.at 10 (omega arith))
-
-pub returns-then-c-lt16 : goal.returns-then-c-lt16
-returns-then-c-lt16 c =
-    let a = c.args in
+pub returns-in-Some : goal.returns-in-Some
+returns-in-Some c =
+    let s = c.args.source.now in
     rw (
       c.command_piece.ensures,
-      length-carried a.level a.bits a.line.now,
-      le-leb _ _ c.if-at-bits.true,
-      ← found (goal.at.returns-then-c-lt16 c).After-command_of-c,
-      lt-ltb _ 16 c.if-c-lt16.true,
+      length-carried s.level s.bits s.line.now,
+      le-leb _ _ c.if-at-source.true,
+      ← (c.in-Some.ensures.0 ∙ ap command_of c.bits_at.ensures),
+      lt-ltb _ 16 c.in-Some.ensures.1,
     )
 
-pub returns-else-c-lt16 : goal.returns-else-c-lt16
-returns-else-c-lt16 c =
-    let a = c.args in
-    rw (
-      length-carried a.level a.bits a.line.now,
-      le-leb _ _ c.if-at-bits.true,
-      ← found (goal.at.returns-else-c-lt16 c).After-command_of-c,
-      le-ltb _ 16 c.if-c-lt16.false,
-    )
-
-pub returns-else-at-bits : goal.returns-else-at-bits
-returns-else-at-bits c =
-    let a = c.args in
-    rw (length-carried a.level a.bits a.line.now, lt-leb _ _ c.if-at-bits.false)
+pub returns-else-at-source : goal.returns-else-at-source
+returns-else-at-source c =
+    let s = c.args.source.now in
+    rw (length-carried s.level s.bits s.line.now, lt-leb _ _ c.if-at-source.false)

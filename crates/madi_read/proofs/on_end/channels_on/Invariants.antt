@@ -1,17 +1,15 @@
 -- `madi_read::on_end::channels_on` meets its contract: each turn is a piece of the definition's reading. Assumes nothing.
 use mathlib.Core.Path.{◌≡◌}
-use mathlib.Core.List.{List}
-use Prim.Native.Nat.{ℕ, ◌-◌, ◌≤◌}
-use lib.ListN.{length, take}
-use Rattle.madi_code.specs.Frame.{boundary}
-use Rattle.madi_read.specs.Reader.{carried}
-use Rattle.madi_read.specs.Inner.{sofar, Reached}
+use Prim.Native.Nat.{ℕ, ◌≤◌, ◌<◌}
+use Rattle.madi_read.specs.Inner.{row_of, frame_of, Reached, Fits}
+use Rattle.madi_read.specs.declared.SoFar.{SoFar}
 use Rattle.madi_read.proofs.on_end.channels_on.Given as goal
 
-abbrev pub invariant-loop-m : goal.invariant-loop-m
-invariant-loop-m l = (l.n ≤ l.m) × (l.m ≤ l.channels) × (boundary l.m l.s ≤ l.bits) × (length l.held ≡ 64)
-    × ((commands : List ℕ) → length commands ≡ l.s
-    → Reached (carried l.level l.bits l.line) l.channels (sofar l.n l.active commands (take l.n l.initial.held)) (sofar l.m l.m commands (take l.m l.held)))
+-- what was read so far, with so many channels, all of them active
+abbrev pub with_came : ℕ → SoFar → SoFar
+with_came n f = record { channels = n; active = n; commands = f.commands; words = f.words; codes = f.codes }
 
-abbrev pub decreases-loop-m : goal.decreases-loop-m
-decreases-loop-m l = l.channels - l.m
+abbrev pub invariant-loop-n : goal.invariant-loop-n
+invariant-loop-n l = (l.came ≡ l.n) × (0 < l.n) × (l.initial.so_far.channels ≤ l.n) × (l.so_far.commands ≡ l.initial.so_far.commands)
+    × Fits l.source (with_came l.came l.so_far)
+    × Reached (row_of l.source) l.source.channels (frame_of l.initial.so_far) (frame_of (with_came l.came l.so_far))

@@ -1,16 +1,15 @@
 -- `madi_read::on_end::commands_on` meets its contract: each turn is a piece of the definition's reading. Assumes nothing.
-use mathlib.Core.List.{List}
-use Prim.Native.Nat.{ℕ, ◌-◌, ◌≤◌}
-use lib.ListN.{take}
-use Rattle.madi_code.specs.Frame.{boundary}
-use Rattle.madi_read.specs.Reader.{carried}
-use Rattle.madi_read.specs.Inner.{sofar, Listed, Reached}
+use mathlib.Core.Path.{◌≡◌}
+use Prim.Native.Nat.{ℕ, ◌≤◌}
+use Rattle.madi_read.specs.Inner.{row_of, frame_of, Reached, Fits}
+use Rattle.madi_read.specs.declared.SoFar.{SoFar}
 use Rattle.madi_read.proofs.on_end.commands_on.Given as goal
 
-abbrev pub invariant-loop-t : goal.invariant-loop-t
-invariant-loop-t l = (l.s ≤ l.t) × (l.t ≤ 255) × (boundary l.n l.t ≤ l.bits) × Listed l.t l.codes
-    × ((active : ℕ) (words : List ℕ)
-    → Reached (carried l.level l.bits l.line) l.channels (sofar l.n active (take l.s l.initial.codes) words) (sofar l.n active (take l.t l.codes) words))
+-- what was read so far, with so many commands
+abbrev pub with_came : ℕ → SoFar → SoFar
+with_came s f = record { channels = f.channels; active = f.active; commands = s; words = f.words; codes = f.codes }
 
-abbrev pub decreases-loop-t : goal.decreases-loop-t
-decreases-loop-t l = 255 - l.t
+abbrev pub invariant-loop-s : goal.invariant-loop-s
+invariant-loop-s l = (l.came ≡ l.s) × (l.so_far.channels ≡ l.initial.so_far.channels) × (l.initial.so_far.commands ≤ l.s)
+    × Fits l.source (with_came l.came l.so_far)
+    × Reached (row_of l.source) l.source.channels (frame_of l.initial.so_far) (frame_of (with_came l.came l.so_far))

@@ -5,33 +5,32 @@ use native.Mathlib.Omega.{arith}
 use Rattle.replay.proofs.Changes.{none_left, made, wrote_none, proper-as, changes-none, changes-data, changes-control, shown_of}
 use Rattle.replay.specs.Sheet.{entry_changes}
 use Rattle.replay.specs.declared.Entry.{Entry}
-use borrow.Author.Rules.{rules}
 use Rattle.replay.proofs.sheet.enter.Goals as goal
 
 pub overflow_sub-group : goal.overflow_sub-group
 overflow_sub-group c =
-    let p = proper-as c.in-Data.is c.requires.1 in
+    let p = proper-as c.in-Data.is c.requires in
     omega (arith, p.0)
 
 pub enter_data-requires : goal.enter_data-requires
 enter_data-requires c =
-    let p = proper-as c.in-Data.is c.requires.1 in
+    let p = proper-as c.in-Data.is c.requires in
     (omega (arith, p.0, p.1), p.2)
 
 pub overflow_sub-group-in-Control : goal.overflow_sub-group-in-Control
 overflow_sub-group-in-Control c =
-    let p = proper-as c.in-Control.is c.requires.1 in
+    let p = proper-as c.in-Control.is c.requires in
     omega (arith, p.0)
 
 pub enter_one-requires : goal.enter_one-requires
 enter_one-requires c =
-    let p = proper-as c.in-Control.is c.requires.1 in
+    let p = proper-as c.in-Control.is c.requires in
     omega (arith, p.0, p.1)
 
 pub enter_unread-requires : goal.enter_unread-requires
 enter_unread-requires c =
-    let p = proper-as c.in-Refused.is c.requires.1 in
-    (search rules, p.0, p.1)
+    let p = proper-as c.in-Refused.is c.requires in
+    (p.0, p.1)
 
 pub returns-in-Passed : goal.returns-in-Passed
 returns-in-Passed c =

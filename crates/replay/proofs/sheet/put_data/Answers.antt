@@ -6,4 +6,4 @@ use Rattle.replay.proofs.sheet.put_data.Goals as goal
 pub returns : goal.returns
 returns c =
     wrote _ _ _ _ c.put.ensures refl (wrote _ _ _ _ c.put-2.ensures refl (wrote _ _ _ _ c.put-3.ensures refl
-    (wrote _ _ _ _ c.put-4.ensures refl (wrote _ _ _ _ c.put-5.ensures refl (wrote_none _)))))
+    (wrote _ _ _ _ c.put-4.ensures refl (wrote _ _ _ _ c.put-5.ensures c.from.ensures (wrote_none _)))))

@@ -1,44 +1,27 @@
--- `replay::sheet::sheet_sound` meets its contract. Assumes nothing.
-use mathlib.Core.Path.{◌≡◌, sym, ◌∙◌}
+-- `replay::sheet::sheet_sound` meets its contract: the definition is that each group's line passes. Assumes nothing.
+use mathlib.Core.Path.{◌≡◌, refl, ◌∙◌}
 use mathlib.Core.Bool.{Bool, true, false, ◌&&◌}
+use mathlib.Core.List.{List, [], ◌∷◌}
+use Prim.Native.Nat.{ℕ}
+use Rattle.std.proofs.Common.{rules, tests}
+use Rattle.std.specs.List.{list_all}
+use Rattle.std.proofs.lemmas.Iterator.{YieldsList-from_range}
+use Rattle.std.proofs.lemmas.Iterator.Search.{all_from_yields_List}
 use Rattle.replay.specs.Sheet.{group_sound, marks_sound}
 use Rattle.replay.proofs.sheet.sheet_sound.Goals as goal
 
-module _ (a b c d : Bool) where
-  and_last : {r : Bool} → a ≡ true → b ≡ true → c ≡ true → r ≡ d → r ≡ (a && b && c && d)
-  and_last e f g h = rw (e, f, g) h
+and-true : (a b c d : Bool) → (a && (b && (c && (d && true)))) ≡ (a && b && c && d)
+and-true true true true true = refl
+and-true true true true false = refl
+and-true true true false d = refl
+and-true true false c d = refl
+and-true false b c d = refl
 
-  and-third : a ≡ true → b ≡ true → c ≡ false → false ≡ (a && b && c && d)
-  and-third e f g = rw (e, f, g)
-
-  and_second : a ≡ true → b ≡ false → false ≡ (a && b && c && d)
-  and_second e f = rw (e, f)
-
-  and_first : a ≡ false → false ≡ (a && b && c && d)
-  and_first e = rw e
-
-pub returns-then-line_sound-3 : goal.returns-then-line_sound-3
+each : (s : List ℕ) → list_all (group_sound s) (1 ∷ 2 ∷ 3 ∷ 4 ∷ []) ≡ marks_sound s
 unfolding marks_sound
-returns-then-line_sound-3 c =
-    let s = c.args.sheet.now in
-    and_last (group_sound s 1) (group_sound s 2) (group_sound s 3) (group_sound s 4) (sym c.line_sound.ensures ∙ c.if-line_sound.true) (sym c.line_sound-then-line_sound.ensures ∙ c.if-line_sound-2.true)
-    (sym c.line_sound-then-line_sound-2.ensures ∙ c.if-line_sound-3.true) c.line_sound-then-line_sound-3.ensures
+each s = and-true (group_sound s 1) (group_sound s 2) (group_sound s 3) (group_sound s 4)
 
-pub returns-else-line_sound-3 : goal.returns-else-line_sound-3
-unfolding marks_sound
-returns-else-line_sound-3 c =
-    let s = c.args.sheet.now in
-    and-third (group_sound s 1) (group_sound s 2) (group_sound s 3) (group_sound s 4) (sym c.line_sound.ensures ∙ c.if-line_sound.true) (sym c.line_sound-then-line_sound.ensures ∙ c.if-line_sound-2.true)
-    (sym c.line_sound-then-line_sound-2.ensures ∙ c.if-line_sound-3.false)
-
-pub returns-else-line_sound-2 : goal.returns-else-line_sound-2
-unfolding marks_sound
-returns-else-line_sound-2 c =
-    let s = c.args.sheet.now in
-    and_second (group_sound s 1) (group_sound s 2) (group_sound s 3) (group_sound s 4) (sym c.line_sound.ensures ∙ c.if-line_sound.true) (sym c.line_sound-then-line_sound.ensures ∙ c.if-line_sound-2.false)
-
-pub returns-else-line_sound : goal.returns-else-line_sound
-unfolding marks_sound
-returns-else-line_sound c =
-    let s = c.args.sheet.now in
-    and_first (group_sound s 1) (group_sound s 2) (group_sound s 3) (group_sound s 4) (sym c.line_sound.ensures ∙ c.if-line_sound.false)
+pub returns : goal.returns
+returns c =
+    all_from_yields_List (group_sound c.args.sheet.now) _ _ c.all.result c.all.ensures.ran (YieldsList-from_range 1 5 4 refl refl)
+    (λ x b q k. search (rules, tests)) ∙ each c.args.sheet.now

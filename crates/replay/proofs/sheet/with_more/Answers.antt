@@ -2,8 +2,8 @@
 use native.Mathlib.Omega.{arith}
 use Rattle.replay.proofs.sheet.with_more.Goals as goal
 
-pub overflow_cast-result : goal.overflow_cast-result
-overflow_cast-result c = omega (arith, c.shared_slice_known-1.given c.args.k)
-
 pub overflow_add-result : goal.overflow_add-result
-overflow_add-result c = omega (arith, c.shared_slice_known-1.given c.args.k, c.ranges.n)
+overflow_add-result c = omega (arith, c.from.ensures, c.from-2.ensures, c.shared_slice_known-1.given c.args.k, c.ranges.n)
+
+pub returns : goal.returns
+returns c = omega (arith, c.from.ensures, c.from-2.ensures)

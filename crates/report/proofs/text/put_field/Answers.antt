@@ -7,4 +7,4 @@ use Rattle.report.proofs.text.put_field.Goals as goal
 pub returns : goal.returns
 unfolding field_text
 returns c =
-    record { put = put_then c.put_number-t.ensures.put c.put.ensures; end_bound = search rules }
+    record { put = put_then (rw c.from.ensures at c.put_number-t.ensures.put) c.put.ensures; end_bound = search rules }

@@ -4,6 +4,3 @@ use Rattle.report.proofs.text.put_number.Given as goal
 
 abbrev pub invariant-loop-left : goal.invariant-loop-left
 invariant-loop-left l = Spelling l.initial.out l.end l.n l.base l.out l.left l.rest
-
-abbrev pub decreases-loop-left : goal.decreases-loop-left
-decreases-loop-left l = l.left

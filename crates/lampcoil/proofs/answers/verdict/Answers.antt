@@ -1,8 +1,0 @@
--- `lampcoil::answers::verdict` meets its contract: case by case. Assumes nothing.
-use Rattle.lampcoil.proofs.answers.verdict.Goals as goal
-
-pub returns-in-Accepted : goal.returns-in-Accepted
-returns-in-Accepted c = rw c.in-Accepted.is
-
-pub returns-in-Refused : goal.returns-in-Refused
-returns-in-Refused c = rw c.in-Refused.is

@@ -1,8 +1,0 @@
--- `records::of_packet` meets its contract. Assumes nothing.
-use Rattle.records.proofs.of_packet.Goals as goal
-
-pub returns-in-Read : goal.returns-in-Read
-returns-in-Read c = cc
-
-pub returns-in-Refused : goal.returns-in-Refused
-returns-in-Refused c = cc

@@ -1,8 +1,0 @@
--- `replay::packet::of_read` meets its contract. Assumes nothing.
-use Rattle.replay.proofs.packet.of_read.Goals as goal
-
-pub returns-in-Read : goal.returns-in-Read
-returns-in-Read c = rw c.in-Read.is
-
-pub returns-in-Refused : goal.returns-in-Refused
-returns-in-Refused c = rw c.in-Refused.is
