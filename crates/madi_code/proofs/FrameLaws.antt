@@ -6,11 +6,12 @@ use Prim.Native.Nat.{ℕ, zero, suc, ◌≤◌, ◌<◌}
 use native.Mathlib.Omega.{arith}
 use borrow.Author.Tests.{leb-true, le-leb, eqb-true, eq-eqb, ne_eqb, ltb-true, ltb-false, lt-ltb}
 use lib.Dec.{eqb, leb, ltb}
-use Rattle.std.specs.Prelude.{Some, None}
+use Rattle.std.specs.Prelude.{Some, None, Ok, Err}
+use Rattle.std.specs.Result.{result_ok}
 use Rattle.bits.specs.Pick.{pick}
 use lib.ListN.{length, get_or}
 use Rattle.bits.proofs.Tests.{both_true, no-yes}
-use Rattle.madi_code.specs.Frame.{counted, numbered, synced, below}
+use Rattle.madi_code.specs.Frame.{counted, numbered, synced, below, parted}
 
 pub counted-le : (channels : ℕ) → counted channels ≡ true → channels ≤ 64
 unfolding counted
@@ -104,3 +105,26 @@ below-none n x = go (ltb x n) refl
 -- a number that is below it
 pub below-is : (n x y : ℕ) → y < n → x ≡ y → below n x ≡ Some y
 below-is n x y h e = rw (e, lt-ltb y n h)
+
+-- ---- a number on one of two sides of a limit
+
+pub parted-ok : (n x y : ℕ) → parted n x ≡ Ok y → (x < n) × (x ≡ y)
+parted-ok n x y = go (ltb x n) refl
+  where
+    go : (t : Bool) → ltb x n ≡ t → pick t (Ok x) (Err x) ≡ Ok y → (x < n) × (x ≡ y)
+    go true e q = (ltb-true x n e, cc)
+    go false e q = cc
+
+pub parted-err : (n x y : ℕ) → parted n x ≡ Err y → (n ≤ x) × (x ≡ y)
+parted-err n x y = go (ltb x n) refl
+  where
+    go : (t : Bool) → ltb x n ≡ t → pick t (Ok x) (Err x) ≡ Err y → (n ≤ x) × (x ≡ y)
+    go true e q = cc
+    go false e q = (omega (arith, ltb-false x n e), cc)
+
+pub parted-some : (n x y : ℕ) → result_ok (parted n x) ≡ Some y → (x < n) × (x ≡ y)
+parted-some n x y = go (ltb x n) refl
+  where
+    go : (t : Bool) → ltb x n ≡ t → result_ok (pick t (Ok x) (Err x)) ≡ Some y → (x < n) × (x ≡ y)
+    go true e q = (ltb-true x n e, cc)
+    go false e q = cc

@@ -4,7 +4,7 @@
 
 ghost use Rattle.std.specs.Prelude.{◌≡◌, ◌%◌, ◌^◌, ◌<◌, take, get_or};
 ghost use Rattle.bits.specs.Row.{big_bits, big};
-ghost use Rattle.madi_code.specs.Frame.{counted, synced, below};
+ghost use Rattle.madi_code.specs.Frame.{counted, synced, below, parted};
 ghost use Rattle.madi_code.specs.Groups.{group_codes, command_codes, command_of, group_of};
 ghost use Rattle.madi_code.specs.Channels.{channel_row, channel_of};
 ghost use Rattle.madi_code.specs.Inner.{four_groups, eight_groups, FoursOf, word_by_table, channel_by, group_table, meaning_table, placed_commands, place_in, command_by};
@@ -206,18 +206,23 @@ fn four_meanings(table: &[u8; 32], v: u64) -> Fours
     }
 }
 
-// The word of the lowest 40 bits of v by a table of meanings, the earliest bit highest, where they are all data groups.
-// A comparison and a cast: with `u32::try_from` a frame is read 6 per cent slower.
-pub fn word_by(table: &[u8; 32], v: u64) -> Option<u32>
-    ensures { result ≡ below (2 ^ 32) (word_by_table table.now v) }
+// The word of the lowest 40 bits of v by a table of meanings, the earliest bit highest; or the number that is no word:
+// 2 ^ 32 where they are not all data groups. The caller may lend any table, so one that has other numbers than the
+// meanings can give a larger one. A comparison and a cast: with `u32::try_from` a frame is read 6 per cent slower.
+pub fn word_by(table: &[u8; 32], v: u64) -> Result<u32, u64>
+    ensures { result ≡ parted (2 ^ 32) (word_by_table table.now v) }
 {
     let early = four_meanings(table, v >> 20);
     let late = four_meanings(table, v);
-    let word = early.word + late.word * 0x1_0000;
-    if early.sum + late.sum < 128 && word < 0x1_0000_0000 {
-        Some(word as u32)
+    let number = if early.sum + late.sum < 128 {
+        early.word + late.word * 0x1_0000
     } else {
-        None
+        0x1_0000_0000
+    };
+    if number < 0x1_0000_0000 {
+        Ok(number as u32)
+    } else {
+        Err(number)
     }
 }
 
@@ -241,7 +246,7 @@ pub fn channel_by(table: &[u8; 32], v: u64) -> Result<u32, Broken>
     ensures { result ≡ channel_by table.now v }
 {
     match word_by(table, v) {
-        Some(w) => Ok(w),
-        None => channel_of(v),
+        Ok(w) => Ok(w),
+        Err(_) => channel_of(v),
     }
 }

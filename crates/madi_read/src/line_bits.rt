@@ -48,6 +48,6 @@ impl Source<'_> {
     pub(crate) fn word(&self, v: u64) -> Option<u32>
         ensures { IfSome result (λ w. channel_of (big_bits 40 v) ≡ Ok w) }
     {
-        madi_code::word_by(&self.table, v)
+        madi_code::word_by(&self.table, v).ok()
     }
 }
