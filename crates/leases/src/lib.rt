@@ -29,28 +29,28 @@ fn is_request(n: u32) -> bool
     (1..=64).contains(&n)
 }
 
-// How many slots are t's; those of 0 are free.
+// How many slots are t's; those of 0 are free. Counted in an octet, as wide as a slot, so that many slots are compared and
+// counted at once.
 fn count_of(table: &[u8; SLOTS], t: u8) -> usize
     ensures { result ≡ held_by t table.now }
 {
-    let mut n = 0;
+    let mut n: u8 = 0;
     for x in table {
         if *x == t {
             n += 1;
         }
     }
-    n
+    usize::from(n)
 }
 
-// The slots that are t's, slot k in bit k.
+// The slots that are t's, slot k in bit k. An index, from the last slot on, so that a turn doubles what is there: where
+// each slot has a shift of its own, the back end takes two slots at a time in vectors, which is slower.
 fn slots_of(table: &[u8; SLOTS], t: u8) -> u64
     ensures { result ≡ slots_of t table.now }
 {
-    let mut slots = 0;
-    for (k, slot) in table.iter().enumerate() {
-        if *slot == t {
-            slots += 1 << k;
-        }
+    let mut slots: u64 = 0;
+    for k in (0..SLOTS).rev() {
+        slots = slots * 2 + u64::from(table[k] == t);
     }
     slots
 }

@@ -47,4 +47,4 @@ loop-x-preserved c =
     ]
 
 pub returns : goal.returns
-returns c = none_left c.args.t c.loop-x.n c.loop-x.x-index c.args.table.now (omega arith) c.loop-x.invariant.1
+returns c = c.from.ensures ∙ none_left c.args.t c.loop-x.n c.loop-x.x-index c.args.table.now (omega arith) c.loop-x.invariant.1
